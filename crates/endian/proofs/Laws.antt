@@ -1,12 +1,13 @@
 -- The two definitions undo each other, and their sizes.
 -- Assumes nothing.
-use mathlib.Core.Path.{_≡_, refl, sym, ap, ap₂, _∙_}
-use mathlib.Core.List.{List, [], _∷_, _++_}
+use mathlib.Core.Path.{_≡_, refl, sym, ap, _∙_}
+use mathlib.Core.List.{List, [], _∷_, append-nil}
 use Prim.Native.Nat.{ℕ, zero, suc, _+_, _-_, _*_, _/_, _%_, _^_, _≤_, _<_}
 use native.Mathlib.Omega.{arith}
-use native.Mathlib.Nat.{mod-lt, div-lt-iff-lt-mul, mul-comm}
-use lib.Pow.{pow-pos}
-use lib.ListN.{length, getD}
+use native.Mathlib.Nat.{mod-lt, div-one, zero-add}
+use lib.Pow.{shr-shr}
+use lib.Seq.{drop-cons, sets, sets-eq}
+use lib.ListN.{length, getD, drop, drop-of-length-le}
 use Rattle.endian.specs.Little.{fromBytes, toBytes}
 
 pub toBytes-length : (n x : ℕ) → length (toBytes n x) ≡ n
@@ -49,3 +50,52 @@ from-to (suc n) x h =
     let p : 2 ^ (8 + 8 * n) ≡ 2 ^ 8 * 2 ^ (8 * n) = lib.Pow.pow-add 2 8 (8 * n) in
     let k : x < 2 ^ 8 * 2 ^ (8 * n) = rw (e, p) at h in
     rw (from-to n (x / 2 ^ 8) (omega arith)) (omega arith)
+
+-- ---- byte by byte, as the code reads and writes them
+-- the number whose n bytes stand in s from place i on
+abbrev pub placesOf : ℕ → ℕ → List ℕ → ℕ
+placesOf i zero s = 0
+placesOf i (suc n) s = getD s i 0 + 2 ^ 8 * placesOf (suc i) n s
+
+from-places : (n i : ℕ) (s : List ℕ) → length s ≡ i + n → fromBytes (drop i s) ≡ placesOf i n s
+unfolding fromBytes
+from-places zero i s h = rw (drop-of-length-le s {i = i} (omega arith)) refl
+from-places (suc n) i s h = rw (drop-cons s i 0 (omega arith), from-places n (suc i) s (omega arith)) refl
+
+pub loaded : (n : ℕ) (s : List ℕ) → length s ≡ n → fromBytes s ≡ placesOf 0 n s
+loaded n s h = from-places n 0 s (omega arith)
+
+-- byte i of x, as the code shifts it down: byte 0 is not shifted
+abbrev pub byteOf : ℕ → ℕ → ℕ
+byteOf zero x = x % 2 ^ 8
+byteOf (suc i) x = x / 2 ^ (8 * suc i) % 2 ^ 8
+
+-- the n bytes of x, the first of them byte i
+abbrev pub bytesFrom : ℕ → ℕ → ℕ → List ℕ
+bytesFrom i zero x = []
+bytesFrom i (suc n) x = byteOf i x ∷ bytesFrom (suc i) n x
+
+byteOf-shift : (i x : ℕ) → x / 2 ^ (8 * i) % 2 ^ 8 ≡ byteOf i x
+byteOf-shift zero x = ap (λ (y : ℕ). y % 2 ^ 8) (div-one x)
+byteOf-shift (suc i) x = refl
+
+to-from-place : (n i x : ℕ) → toBytes n (x / 2 ^ (8 * i)) ≡ bytesFrom i n x
+unfolding toBytes
+to-from-place zero i x = refl
+to-from-place (suc n) i x =
+    let e : 8 * suc i ≡ 8 * i + 8 = omega arith in
+    let p : x / 2 ^ (8 * i) / 2 ^ 8 ≡ x / 2 ^ (8 * suc i) = rw e (shr-shr x (8 * i) 8) in
+    rw (p, to-from-place n (suc i) x, byteOf-shift i x) refl
+
+pub stored : (n x : ℕ) → toBytes n x ≡ bytesFrom 0 n x
+stored n x = ap (toBytes n) (sym (div-one x)) ∙ to-from-place n 0 x
+
+bytesFrom-length : (n i x : ℕ) → length (bytesFrom i n x) ≡ n
+bytesFrom-length zero i x = refl
+bytesFrom-length (suc n) i x = ap suc (bytesFrom-length n (suc i) x)
+
+-- and stored one after the other into as many lent bytes
+pub stored-in : (n x : ℕ) (d : List ℕ) → length d ≡ n → sets d 0 (bytesFrom 0 n x) ≡ toBytes n x
+stored-in n x d h =
+    let k : length (bytesFrom 0 n x) ≡ n = bytesFrom-length n 0 x in
+    rw (sets-eq (bytesFrom 0 n x) d 0 (omega arith), k, zero-add, drop-of-length-le d {i = n} (omega arith), append-nil) (sym (stored n x))

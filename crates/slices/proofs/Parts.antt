@@ -1,0 +1,53 @@
+-- Parts of a list: one that was lent and came back, one cut at the end, one copied, one more element done.
+use mathlib.Core.Path.{_≡_, refl, sym, _∙_}
+use mathlib.Core.List.{List, [], _∷_, _++_, append-assoc}
+use Prim.Native.Nat.{ℕ, suc, _+_, _-_, _≤_, _<_, min}
+use native.Mathlib.Nat.{min-eq-left, min-eq-right}
+use native.Mathlib.Decide.{decLe}
+use native.Mathlib.Numerals.{add-one}
+use native.Mathlib.Omega.{arith}
+use lib.ListN.{length, getD, set, take, drop, length-append, length-drop, drop-of-length-le}
+use lib.Seq.{take-all, take-at, drop-at, take-suc, drop-cons, set-at, append-snoc, length-take-le, drop-drop}
+
+module _ (xs : List ℕ) (a k : ℕ) (ys : List ℕ) (fits : a + k ≤ length xs) (is : length ys ≡ k) where
+  head : length (take a xs ++ ys) ≡ a + k
+  head = rw length-append (rw (length-take-le a xs (omega arith), is))
+
+  pub take-back : take (a + k) (take a xs ++ (ys ++ drop k (drop a xs))) ≡ take a xs ++ ys
+  take-back = rw (← append-assoc) (take-at (take a xs ++ ys) (drop k (drop a xs)) (a + k) head)
+
+  pub drop-back : drop (a + k) (take a xs ++ (ys ++ drop k (drop a xs))) ≡ drop (a + k) xs
+  drop-back = rw (← append-assoc) (drop-at (take a xs ++ ys) (drop k (drop a xs)) (a + k) head ∙ drop-drop k a xs)
+
+  pub length-back : length (take a xs ++ (ys ++ drop k (drop a xs))) ≡ length xs
+  length-back = simp (length-append, length-take-le a xs (omega arith), length-drop, is) (omega arith)
+
+-- a part that was lent at the end of what is done, and came back
+pub grow : {A : Type 0} (done d ys : List A) (i k : ℕ) → length done ≡ i
+    → take i (done ++ drop i d) ++ (ys ++ drop k (drop i (done ++ drop i d))) ≡ (done ++ ys) ++ drop (i + k) d
+grow done d ys i k e = rw (take-at done (drop i d) i e, drop-at done (drop i d) i e, drop-drop k i d, ← append-assoc)
+
+-- one element stored at the end of what is done
+pub grow-one : {A : Type 0} (done d : List A) (i : ℕ) (v z : A) → length done ≡ i → i < length d
+    → set (done ++ drop i d) i v ≡ (done ++ (v ∷ [])) ++ drop (i + 1) d
+grow-one done d i v z e h =
+    rw (add-one, drop-cons d i z h, set-at done (getD d i z) (drop (suc i) d) v i e) (sym (append-snoc done v (drop (suc i) d)))
+
+-- a copy, one element more
+pub copy-more : {A : Type 0} (s d : List A) (i : ℕ) (z : A) → i < length s → i < length d
+    → set (take i s ++ drop i d) i (getD s i z) ≡ take (i + 1) s ++ drop (i + 1) d
+copy-more s d i z h k =
+    rw (grow-one (take i s) d i (getD s i z) z (length-take-le i s (omega arith)) k, add-one, ← take-suc s i z h) refl
+
+by-min : (n : ℕ) (l : List ℕ) → Dec (n ≤ length l) → (take (min n (length l)) l ≡ take n l) × (drop (min n (length l)) l ≡ drop n l)
+by-min n l (yes h) = rw (min-eq-left h) (refl, refl)
+by-min n l (no h) =
+    let g : length l ≤ n = omega (arith, h) in
+    rw (min-eq-right g) (take-all (length l) l (omega arith) ∙ sym (take-all n l g), drop-of-length-le l {i = length l} (omega arith) ∙ sym (drop-of-length-le l g))
+
+-- what is asked past the end is not there
+pub take-min : (n : ℕ) (l : List ℕ) → take (min n (length l)) l ≡ take n l
+take-min n l = by-min n l (decLe n (length l)) .0
+
+pub drop-min : (n : ℕ) (l : List ℕ) → drop (min n (length l)) l ≡ drop n l
+drop-min n l = by-min n l (decLe n (length l)) .1

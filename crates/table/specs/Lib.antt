@@ -1,0 +1,3 @@
+-- What a reader of this crate must believe: the numbers, and which of several refusals is given.
+pub mod Numbers
+pub mod Refusals

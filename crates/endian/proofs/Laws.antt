@@ -1,13 +1,15 @@
 -- The two definitions undo each other, and their sizes.
 -- Assumes nothing.
 use mathlib.Core.Path.{_≡_, refl, sym, ap, _∙_}
-use mathlib.Core.List.{List, [], _∷_, append-nil}
+use mathlib.Core.List.{List, [], _∷_, _++_, append-nil}
 use Prim.Native.Nat.{ℕ, zero, suc, _+_, _-_, _*_, _/_, _%_, _^_, _≤_, _<_}
 use native.Mathlib.Omega.{arith}
-use native.Mathlib.Nat.{mod-lt, div-one, zero-add}
-use lib.Pow.{shr-shr}
+use native.Mathlib.Nat.{mod-lt, div-one, zero-add, lt-of-lt-of-le}
+use lib.Pow.{shr-shr, pow-add, pow-mono}
 use lib.Seq.{drop-cons, sets, sets-eq}
-use lib.ListN.{length, getD, drop, drop-of-length-le}
+use lib.ListN.{length, getD, set, drop, drop-of-length-le}
+use native.Mathlib.Numerals.{add-one}
+use Rattle.slices.proofs.Parts.{grow-one}
 use Rattle.endian.specs.Little.{fromBytes, toBytes}
 
 pub toBytes-length : (n x : ℕ) → length (toBytes n x) ≡ n
@@ -28,7 +30,7 @@ unfolding fromBytes
 fromBytes-lt [] h = omega arith
 fromBytes-lt (v ∷ vs) h =
     let e : 8 * suc (length vs) ≡ 8 + 8 * length vs = omega arith in
-    let p : 2 ^ (8 + 8 * length vs) ≡ 2 ^ 8 * 2 ^ (8 * length vs) = lib.Pow.pow-add 2 8 (8 * length vs) in
+    let p : 2 ^ (8 + 8 * length vs) ≡ 2 ^ 8 * 2 ^ (8 * length vs) = pow-add 2 8 (8 * length vs) in
     rw (e, p) (omega (arith, h 0, fromBytes-lt vs (λ i. h (suc i))))
 
 -- bytes to a number and back
@@ -47,7 +49,7 @@ unfolding fromBytes toBytes
 from-to zero x h = omega arith
 from-to (suc n) x h =
     let e : 8 * suc n ≡ 8 + 8 * n = omega arith in
-    let p : 2 ^ (8 + 8 * n) ≡ 2 ^ 8 * 2 ^ (8 * n) = lib.Pow.pow-add 2 8 (8 * n) in
+    let p : 2 ^ (8 + 8 * n) ≡ 2 ^ 8 * 2 ^ (8 * n) = pow-add 2 8 (8 * n) in
     let k : x < 2 ^ 8 * 2 ^ (8 * n) = rw (e, p) at h in
     rw (from-to n (x / 2 ^ 8) (omega arith)) (omega arith)
 
@@ -99,3 +101,38 @@ pub stored-in : (n x : ℕ) (d : List ℕ) → length d ≡ n → sets d 0 (byte
 stored-in n x d h =
     let k : length (bytesFrom 0 n x) ≡ n = bytesFrom-length n 0 x in
     rw (sets-eq (bytesFrom 0 n x) d 0 (omega arith), k, zero-add, drop-of-length-le d {i = n} (omega arith), append-nil) (sym (stored n x))
+
+-- ---- one byte more, from the back and from the front
+pub from-back : (s : List ℕ) (i : ℕ) → i < length s → fromBytes (drop i s) ≡ getD s i 0 + 2 ^ 8 * fromBytes (drop (suc i) s)
+unfolding fromBytes
+from-back s i h = rw (drop-cons s i 0 h) refl
+
+pub to-snoc : (n x : ℕ) → toBytes (suc n) x ≡ toBytes n x ++ (x / 2 ^ (8 * n) % 2 ^ 8 ∷ [])
+unfolding toBytes
+to-snoc zero x = rw (div-one x) refl
+to-snoc (suc n) x =
+    let e : 8 * suc n ≡ 8 + 8 * n = omega arith in
+    rw (to-snoc n (x / 2 ^ 8), e, ← shr-shr x 8 (8 * n)) refl
+
+-- the number of k bytes leaves room for a byte more
+pub part-room : (k x : ℕ) → k ≤ 7 → x < 2 ^ (8 * k) → x < 2 ^ 56
+part-room k x h b = let e : 8 * k ≤ 56 = omega arith in lt-of-lt-of-le b (pow-mono e)
+
+pub part-more : (k x v : ℕ) → x < 2 ^ (8 * k) → v < 2 ^ 8 → x * 256 + v < 2 ^ (8 * (k + 1))
+part-more k x v h b =
+    let e : 8 * (k + 1) ≡ 8 + 8 * k = omega arith in
+    let p : 2 ^ (8 + 8 * k) ≡ 2 ^ 8 * 2 ^ (8 * k) = pow-add 2 8 (8 * k) in
+    rw (e, p) (omega arith)
+
+-- the turns of the two loops
+pub load-more : (s : List ℕ) (x v i : ℕ) → 0 < i → i ≤ length s → x ≡ fromBytes (drop i s) → v ≡ getD s (i - 1) 0 → x * 256 + v ≡ fromBytes (drop (i - 1) s)
+load-more s x v i p h ex ev =
+    let e : suc (i - 1) ≡ i = omega arith in
+    let b : fromBytes (drop (i - 1) s) ≡ getD s (i - 1) 0 + 2 ^ 8 * fromBytes (drop i s) = rw e at (from-back s (i - 1) (omega arith)) in
+    omega arith
+
+pub store-more : (x i : ℕ) (d : List ℕ) → i < length d → set (toBytes i x ++ drop i d) i (x / 2 ^ (8 * i) % 2 ^ 8) ≡ toBytes (i + 1) x ++ drop (i + 1) d
+store-more x i d h = rw (grow-one (toBytes i x) d i (x / 2 ^ (8 * i) % 2 ^ 8) 0 (toBytes-length i x) h, add-one, to-snoc i x) refl
+
+pub shift-more : (x i : ℕ) → x / 2 ^ (8 * i) / 256 ≡ x / 2 ^ (8 * (i + 1))
+shift-more x i = let e : 8 * (i + 1) ≡ 8 * i + 8 = omega arith in rw e (shr-shr x (8 * i) 8)

@@ -1,7 +1,7 @@
 // Little-endian numbers in lent bytes, at the widths that the dip and the lanes have: loading and storing.
 // Serves the crates above; no public call.
 ghost use mathlib.Core.Path.{_≡_};
-ghost use Prim.Native.Nat.{_<_};
+ghost use Prim.Native.Nat.{_<_, _≤_};
 ghost use lib.ListN.{length};
 ghost use Rattle.endian.specs.Little.{fromBytes, toBytes};
 
@@ -91,4 +91,31 @@ pub fn store64(out: &mut [u8], x: u64)
     out[5] = ((x >> 40) % 256) as u8;
     out[6] = ((x >> 48) % 256) as u8;
     out[7] = ((x >> 56) % 256) as u8;
+}
+
+// Fewer bytes than a lane has, as a number: the last byte first, so that what is done is the number of the bytes behind.
+pub fn load_part(s: &[u8]) -> u64
+    requires { ⌜ length (now s) ≤ 8 ⌝ }
+    ensures { λ r. ⌜ r ≡ fromBytes (now (s .entry)) ⌝ }
+{
+    let mut x = 0;
+    let mut i = s.len();
+    while 0 < i {
+        i -= 1;
+        x = x * 256 + wide64(s[i]);
+    }
+    x
+}
+
+// As many of the lowest bytes of x as there is room for.
+pub fn store_part(out: &mut [u8], x: u64)
+    ensures { λ r. ⌜ now (out .exit) ≡ toBytes (length (now (out .entry))) x ⌝ }
+{
+    let mut rest = x;
+    let mut i = 0;
+    while i < out.len() {
+        out[i] = (rest % 256) as u8;
+        rest = rest / 256;
+        i += 1;
+    }
 }

@@ -114,6 +114,10 @@ to-snoc (suc n) x =
     let e : 8 * suc n ≡ 8 + 8 * n = omega arith in
     rw (to-snoc n (x / 2 ^ 8), e, ← shr-shr x 8 (8 * n)) refl
 
+-- four bytes at most are a number of 32 bits
+pub few-lt : (vs : List ℕ) → length vs ≤ 4 → ((i : ℕ) → getD vs i 0 < 2 ^ 8) → fromBytes vs < 2 ^ 32
+few-lt vs h b = let e : 8 * length vs ≤ 32 = omega arith in lt-of-lt-of-le (fromBytes-lt vs b) (pow-mono e)
+
 -- the number of k bytes leaves room for a byte more
 pub part-room : (k x : ℕ) → k ≤ 7 → x < 2 ^ (8 * k) → x < 2 ^ 56
 part-room k x h b = let e : 8 * k ≤ 56 = omega arith in lt-of-lt-of-le b (pow-mono e)

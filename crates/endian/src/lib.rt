@@ -94,7 +94,7 @@ pub fn store64(out: &mut [u8], x: u64)
 }
 
 // Fewer bytes than a lane has, as a number: the last byte first, so that what is done is the number of the bytes behind.
-pub fn load_part(s: &[u8]) -> u64
+pub fn load_part64(s: &[u8]) -> u64
     requires { ⌜ length (now s) ≤ 8 ⌝ }
     ensures { λ r. ⌜ r ≡ fromBytes (now (s .entry)) ⌝ }
 {
@@ -108,7 +108,7 @@ pub fn load_part(s: &[u8]) -> u64
 }
 
 // As many of the lowest bytes of x as there is room for.
-pub fn store_part(out: &mut [u8], x: u64)
+pub fn store_part64(out: &mut [u8], x: u64)
     ensures { λ r. ⌜ now (out .exit) ≡ toBytes (length (now (out .entry))) x ⌝ }
 {
     let mut rest = x;
@@ -118,4 +118,17 @@ pub fn store_part(out: &mut [u8], x: u64)
         rest = rest / 256;
         i += 1;
     }
+}
+
+pub fn load_part32(s: &[u8]) -> u32
+    requires { ⌜ length (now s) ≤ 4 ⌝ }
+    ensures { λ r. ⌜ r ≡ fromBytes (now (s .entry)) ⌝ }
+{
+    load_part64(s) as u32
+}
+
+pub fn store_part32(out: &mut [u8], x: u32)
+    ensures { λ r. ⌜ now (out .exit) ≡ toBytes (length (now (out .entry))) x ⌝ }
+{
+    store_part64(out, x as u64);
 }

@@ -7,8 +7,8 @@ use borrow.Author.Needs.{needs}
 use lib.ListN.{length, drop, length-set, drop-of-length-le}
 use Rattle.endian.specs.Little.{toBytes}
 use Rattle.endian.proofs.Laws.{store-more, shift-more}
-use Rattle.endian.proofs.store_part.Statement.{statement}
-use Rattle.endian.proofs.store_part.Tie as tie
+use Rattle.endian.proofs.store_part64.Statement.{statement}
+use Rattle.endian.proofs.store_part64.Tie as tie
 
 abbrev Inv-loop : tie.InvT-loop
 Inv-loop out₀ x rest₀ i₀ out rest i = (i ≤ length out₀) × (length out ≡ length out₀) × (rest ≡ x / 2 ^ (8 * i)) × (out ≡ toBytes i x ++ drop i out₀)
@@ -48,8 +48,8 @@ returns c =
     let e : l .i ≡ length o = search needs in
     l .inv .3 ∙ rw (drop-of-length-le o {i = l .i} (search needs), e) (append-nil _)
 
-pub store-part-spec : {M : Type 1} → statement M
-store-part-spec =
+pub store-part64-spec : {M : Type 1} → statement M
+store-part64-spec =
     tie.close
     (tie.spec
     Inv-loop

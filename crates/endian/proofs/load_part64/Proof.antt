@@ -5,8 +5,8 @@ use borrow.Author.Needs.{needs}
 use lib.ListN.{length, drop, drop-of-length-le}
 use Rattle.endian.specs.Little.{fromBytes}
 use Rattle.endian.proofs.Laws.{load-more, part-room, part-more}
-use Rattle.endian.proofs.load_part.Statement.{statement}
-use Rattle.endian.proofs.load_part.Tie as tie
+use Rattle.endian.proofs.load_part64.Statement.{statement}
+use Rattle.endian.proofs.load_part64.Tie as tie
 
 abbrev Inv-loop : tie.InvT-loop
 Inv-loop s x₀ i₀ x i = (i ≤ length s) × (x ≡ fromBytes (drop i s)) × (x < 2 ^ (8 * (length s - i)))
@@ -56,8 +56,8 @@ returns c =
     let z : l .i ≡ 0 = omega arith in
     rw z at (l .inv .1)
 
-pub load-part-spec : {M : Type 1} → statement M
-load-part-spec =
+pub load-part64-spec : {M : Type 1} → statement M
+load-part64-spec =
     tie.close
     (tie.spec
     Inv-loop

@@ -1,8 +1,9 @@
 // Work on lent bytes that every layer does: the lesser of two lengths, copying, clearing, comparing.
 // Serves the crates above; no public call.
 ghost use mathlib.Core.Path.{_≡_};
-ghost use Prim.Native.Nat.{min};
-ghost use lib.ListN.{length, replicate};
+ghost use mathlib.Core.List.{_++_};
+ghost use Prim.Native.Nat.{_≤_, min};
+ghost use lib.ListN.{length, drop, replicate};
 ghost use Rattle.slices.specs.Same.{sameBytes};
 
 pub fn least(a: usize, b: usize) -> usize
@@ -46,4 +47,12 @@ pub fn same(a: &[u8], b: &[u8]) -> bool
         i += 1;
     }
     diff == 0
+}
+
+// The first n bytes.
+pub fn clear_front(out: &mut [u8], n: usize)
+    requires { ⌜ n ≤ length (now out) ⌝ }
+    ensures { λ r. ⌜ now (out .exit) ≡ replicate n 0 ++ drop n (now (out .entry)) ⌝ }
+{
+    clear(&mut out[..n]);
 }

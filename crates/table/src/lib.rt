@@ -2,6 +2,7 @@
 // Every crate that refuses takes its numbers from here; the definitions take theirs from specs/Numbers.antt.
 ghost use mathlib.Core.Path.{_≡_};
 ghost use Rattle.table.specs.Refusals.{orElse};
+ghost use Rattle.table.specs.Choices.{riding, asked};
 
 pub const DONE: u8 = 0;
 
@@ -49,4 +50,40 @@ pub fn or_else(condition: bool, number: u8, rest: u8) -> u8
     ensures { λ r. ⌜ r ≡ orElse condition number rest ⌝ }
 {
     if condition { number } else { rest }
+}
+
+// How far a session has come.
+pub enum Phase {
+    Unstarted,
+    Riding,
+    Failed,
+}
+
+// The start tag's use: none is asked for, it goes into the tag buffer, or the tag buffer's is compared with it.
+pub enum StartTag {
+    None,
+    Produced,
+    Checked,
+}
+
+// Whether the phase is that of a session under way.
+pub fn is_riding(phase: Phase) -> bool
+    ensures { λ r. ⌜ r ≡ riding phase ⌝ }
+{
+    match phase {
+        Phase::Unstarted => false,
+        Phase::Riding => true,
+        Phase::Failed => false,
+    }
+}
+
+// Whether a start tag is asked for.
+pub fn is_asked(tag: StartTag) -> bool
+    ensures { λ r. ⌜ r ≡ asked tag ⌝ }
+{
+    match tag {
+        StartTag::None => false,
+        StartTag::Produced => true,
+        StartTag::Checked => true,
+    }
 }

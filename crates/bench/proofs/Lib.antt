@@ -1,0 +1,2 @@
+-- The law of a repeated step.
+pub mod Turns

@@ -1,0 +1,2 @@
+-- A step done over and over.
+pub mod Repeat

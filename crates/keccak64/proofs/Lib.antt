@@ -1,0 +1,2 @@
+-- What the contract of `permute` says of its answers.
+pub mod Answers

@@ -1,0 +1,70 @@
+use mathlib.Core.Path.{_≡_, refl, sym, ap, _∙_}
+use native.Mathlib.Omega.{arith}
+use lib.ListN.{length}
+use Rattle.keccak.specs.State.{bytes}
+use Rattle.motorist.specs.Instance.{lake}
+use Rattle.motorist.specs.Keyak.{lakeF}
+use Rattle.motorist.proofs.Instances.{lake-sound}
+use Rattle.calls.specs.Outcome.{Outcome}
+use Rattle.calls.proofs.Meets.{message-fine, start-low, start-lane, wrap-refused, wrap-done}
+use Rattle.lake.specs.Lake.{viewOf, message, turn}
+use borrow.Author.Needs.{needs}
+use Rattle.lake.proofs.wrap.Statement.{statement}
+use Rattle.lake.proofs.wrap.Tie as tie
+
+message-refusal-requires : tie.Need-message-refusal-requires
+message-refusal-requires c κs = search needs
+
+refused-requires : tie.Need-refused-requires
+refused-requires c κs = search needs
+
+returns : tie.Need-returns
+returns c =
+    let a = c .before .before .before .before .before .before .before .args in
+    rw (c .refused .ensures) (ap (λ (o : Outcome). (turn (a .session) o, o .out, o .tag)) (sym (wrap-refused lake lakeF (viewOf (a .session)) (message (a .text .now) (a .meta .now) (a .forget)) (a .out .now) (a .tag .now) (c .before .before .message-refusal .result) (c .before .before .message-refusal .ensures) (c .before .if1 .taken))))
+
+lake-rates-requires : tie.Need-lake-rates-requires
+lake-rates-requires c κs = search needs
+
+message-requires : tie.Need-message-requires
+message-requires c κs =
+    let a = c .before .before .before .before .before .before .before .before .before .args in
+    let k = message-fine (viewOf (a .session)) (length (a .text .now)) (length (a .meta .now)) (length (a .out .now)) (length (a .tag .now)) (c .before .before .before .before .message-refusal .result) (c .before .before .before .before .message-refusal .ensures) (c .before .before .before .if1 .left) in
+    ((c .before .lake-rates .ensures, start-low lake lake-sound (viewOf (a .session)) (k .start), start-lane 8 refl refl (viewOf (a .session)) (k .start), k .room), (k .text, k .meta))
+
+squeeze-requires : tie.Need-squeeze-requires
+squeeze-requires c κs =
+    let a = c .before .before .before .before .before .before .before .before .before .before .before .before .before .before .args in
+    let k = message-fine (viewOf (a .session)) (length (a .text .now)) (length (a .meta .now)) (length (a .out .now)) (length (a .tag .now)) (c .before .before .before .before .before .before .before .before .before .message-refusal .result) (c .before .before .before .before .before .before .before .before .before .message-refusal .ensures) (c .before .before .before .before .before .before .before .before .if1 .left) in
+    omega (arith, k .tag)
+
+done-requires : tie.Need-done-requires
+done-requires c κs = search needs
+
+same-length : tie.Need-same-length
+same-length c = search needs
+
+same-length-2 : tie.Need-same-length-2
+same-length-2 c = search needs
+
+returns-2 : tie.Need-returns-2
+returns-2 c =
+    let a = c .before .before .before .before .before .before .before .before .before .before .before .before .before .before .before .before .before .before .args in
+    let r = c .before .before .before .before .before .before .before .before .message in
+    let e = wrap-done lake lakeF (viewOf (a .session)) (message (a .text .now) (a .meta .now) (a .forget)) (a .out .now) (a .tag .now) (c .before .before .before .before .before .before .before .before .before .before .before .before .before .message-refusal .result) (c .before .before .before .before .before .before .before .before .before .before .before .before .before .message-refusal .ensures) (c .before .before .before .before .before .before .before .before .before .before .before .before .if1 .left) (bytes 8 (r .result .lanes)) (r .result .runs) _ _ (r .ensures .0) (r .ensures .1 .0) (r .ensures .1 .1) (c .before .before .before .squeeze .ensures) in
+    rw (c .done .ensures) (ap (λ (o : Outcome). (turn (a .session) o, o .out, o .tag)) (sym e))
+
+pub wrap-spec : {M : Type 1} → statement M
+wrap-spec =
+    tie.close
+    (tie.spec
+    message-refusal-requires
+    refused-requires
+    returns
+    lake-rates-requires
+    message-requires
+    squeeze-requires
+    done-requires
+    same-length
+    same-length-2
+    returns-2)

@@ -1,0 +1,13 @@
+use mathlib.Core.Path.{refl}
+use Rattle.endian.specs.Little.{toBytes}
+use Rattle.keccak.specs.State.{bytes}
+use borrow.Author.Needs.{needs}
+use Rattle.lanes32.proofs.zero.Statement.{statement}
+use Rattle.lanes32.proofs.zero.Tie as tie
+
+returns : tie.Need-returns
+unfolding bytes toBytes
+returns c = refl
+
+pub zero-spec : {M : Type 1} → statement M
+zero-spec = tie.close (tie.spec returns)

@@ -1,0 +1,86 @@
+// 25 lanes of 32 bits as a run of bytes: the zero state, bytes xored in, text under the key stream, the first bytes out.
+// Whole lanes at a time; bytes only at a run's end. Serves the Piston's code; no public call.
+ghost use mathlib.Core.Path.{_≡_};
+ghost use Prim.Native.Nat.{_+_, _*_, _%_, _≤_};
+ghost use mathlib.Core.List.{_++_};
+ghost use lib.ListN.{length, take, drop, replicate};
+ghost use Rattle.keccak.specs.State.{bytes};
+ghost use Rattle.motorist.specs.Piston.{xors, mask};
+ghost use Rattle.piston.specs.Placed.{placed};
+
+pub fn zero() -> [u32; 25]
+    ensures { λ r. ⌜ bytes 4 r ≡ replicate 100 0 ⌝ }
+{
+    [0; 25]
+}
+
+// The first n lanes' worth of s, from lane q on.
+fn absorb_whole(lanes: [u32; 25], q: usize, n: usize, s: &[u8]) -> [u32; 25]
+    requires { ⌜ (q + n ≤ 25) × (4 * n ≤ length (now s)) ⌝ }
+    ensures { λ r. ⌜ bytes 4 r ≡ xors (bytes 4 lanes) (placed (4 * q) (take (4 * n) (now (s .entry)))) ⌝ }
+{
+    let mut out = lanes;
+    let mut j = 0;
+    while j < n {
+        let at = q + j;
+        let a = 4 * j;
+        out[at] = out[at] ^ endian::load32(&s[a..a + 4]);
+        j += 1;
+    }
+    out
+}
+
+// The bytes of s xored in from byte p on, which is the first of a lane.
+pub fn absorb(lanes: [u32; 25], p: usize, s: &[u8]) -> [u32; 25]
+    requires { ⌜ (p % 4 ≡ 0) × (p + length (now s) ≤ 100) ⌝ }
+    ensures { λ r. ⌜ bytes 4 r ≡ xors (bytes 4 lanes) (placed p (now (s .entry))) ⌝ }
+{
+    let q = p / 4;
+    let n = s.len() / 4;
+    let whole = absorb_whole(lanes, q, n, s);
+    if s.len() == 4 * n {
+        return whole;
+    }
+    let mut out = whole;
+    let at = q + n;
+    out[at] = out[at] ^ endian::load_part32(&s[4 * n..]);
+    out
+}
+
+// The first n lanes' worth of s under the key stream from lane q on, into the front of out.
+fn stream_whole(lanes: [u32; 25], q: usize, n: usize, s: &[u8], out: &mut [u8])
+    requires { ⌜ (q + n ≤ 25) × (4 * n ≤ length (now s)) × (length (now out) ≡ length (now s)) ⌝ }
+    ensures { λ r. ⌜ now (out .exit) ≡ mask (bytes 4 lanes) (4 * q) (take (4 * n) (now (s .entry))) ++ drop (4 * n) (now (out .entry)) ⌝ }
+{
+    let mut j = 0;
+    while j < n {
+        let a = 4 * j;
+        let x = endian::load32(&s[a..a + 4]) ^ lanes[q + j];
+        endian::store32(&mut out[a..a + 4], x);
+        j += 1;
+    }
+}
+
+// The bytes of s under the key stream from byte p on, which is the first of a lane.
+pub fn stream(lanes: [u32; 25], p: usize, s: &[u8], out: &mut [u8])
+    requires { ⌜ (p % 4 ≡ 0) × (p + length (now s) ≤ 100) × (length (now out) ≡ length (now s)) ⌝ }
+    ensures { λ r. ⌜ now (out .exit) ≡ mask (bytes 4 lanes) p (now (s .entry)) ⌝ }
+{
+    let q = p / 4;
+    let n = s.len() / 4;
+    stream_whole(lanes, q, n, s, out);
+    if s.len() != 4 * n {
+        let x = endian::load_part32(&s[4 * n..]) ^ lanes[q + n];
+        endian::store_part32(&mut out[4 * n..], x);
+    }
+}
+
+// The first bytes of the state, as many as out has: zeros under the key stream.
+pub fn squeeze(lanes: [u32; 25], out: &mut [u8])
+    requires { ⌜ length (now out) ≤ 32 ⌝ }
+    ensures { λ r. ⌜ now (out .exit) ≡ take (length (now (out .entry))) (bytes 4 lanes) ⌝ }
+{
+    let zeros = [0u8; 32];
+    let n = out.len();
+    stream(lanes, 0, &zeros[..n], out);
+}

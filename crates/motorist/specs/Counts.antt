@@ -1,0 +1,12 @@
+-- What the code's rates are to be.
+use mathlib.Core.Path.{_≡_}
+use Rattle.motorist.specs.Instance.{Instance, textRate, fullRate, packLength, chainLength, tagLength}
+use Rattle.motorist.specs.declared.Rates.{Rates}
+
+-- the rates r are those of the instance i
+pub record RatesOf (i : Instance) (r : Rates) : Type 0 where
+  pub text : r .text .0 ≡ textRate i
+  pub full : r .full .0 ≡ fullRate i
+  pub pack : r .pack .0 ≡ packLength i
+  pub chain : r .chain .0 ≡ chainLength i
+  pub tag : r .tag .0 ≡ tagLength

@@ -1,0 +1,4 @@
+pub mod Block
+pub mod Lane
+pub mod Turns
+pub mod Xors

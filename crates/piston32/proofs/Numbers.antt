@@ -1,0 +1,26 @@
+-- The numbers of River that the proofs of this crate ask for, computed: rates that are whole lanes of 4 bytes and leave room for the offset bytes.
+use Prim.Native.Nat.{ℕ, _+_, _%_, _≤_}
+use lib.ListN.{replicate}
+use mathlib.Core.Path.{_≡_, refl}
+use native.Mathlib.Omega.{arith}
+use Rattle.motorist.specs.Instance.{river, stateLength, textRate, fullRate, chainLength}
+
+pub room : fullRate river + 4 ≤ 100
+unfolding fullRate
+room = omega arith
+
+pub text-lane : textRate river % 4 ≡ 0
+unfolding textRate
+text-lane = refl
+
+pub chain-32 : chainLength river ≡ 32
+unfolding chainLength
+chain-32 = refl
+
+pub full-lane : fullRate river % 4 ≡ 0
+unfolding fullRate
+full-lane = refl
+
+pub zero-state : replicate {A = ℕ} 100 0 ≡ replicate (stateLength river) 0
+unfolding stateLength
+zero-state = refl

@@ -1,0 +1,38 @@
+use borrow.Author.Needs.{needs}
+use Rattle.piston32.proofs.crypt.Statement.{statement}
+use Rattle.piston32.proofs.crypt.Tie as tie
+
+stream-requires : tie.Need-stream-requires
+stream-requires c κs = search needs
+
+absorb-requires : tie.Need-absorb-requires
+absorb-requires c κs = search needs
+
+absorb-requires-2 : tie.Need-absorb-requires-2
+absorb-requires-2 c κs = search needs
+
+same-length : tie.Need-same-length
+same-length c = search needs
+
+returns : tie.Need-returns
+returns c =
+    let a = c .before .before .before .before .before .before .before .before .before .args in
+    (rw (c .before .before .if1 .taken, ← c .before .before .before .before .before .stream .ensures) (c .absorb .ensures), c .before .before .before .before .before .stream .ensures)
+
+same-length-2 : tie.Need-same-length-2
+same-length-2 c = search needs
+
+returns-2 : tie.Need-returns-2
+returns-2 c = (rw (c .before .if1 .left) (c .absorb2 .ensures), c .before .before .before .before .stream .ensures)
+
+pub crypt-spec : {M : Type 1} → statement M
+crypt-spec =
+    tie.close
+    (tie.spec
+    stream-requires
+    absorb-requires
+    absorb-requires-2
+    same-length
+    returns
+    same-length-2
+    returns-2)

@@ -1,0 +1,27 @@
+use mathlib.Core.Path.{_≡_, ap, _∙_}
+use native.Mathlib.Omega.{arith}
+use Rattle.motorist.specs.Keyak.{riverF}
+use Rattle.piston32.proofs.Numbers.{room, full-lane}
+use borrow.Author.Needs.{needs}
+use Rattle.piston32.proofs.finish.Statement.{statement}
+use Rattle.piston32.proofs.finish.Tie as tie
+
+absorb-requires : tie.Need-absorb-requires
+absorb-requires c κs = search needs
+
+slice-aggregate-absorb : tie.Need-slice-aggregate-absorb
+slice-aggregate-absorb c = search needs
+
+absorb-requires-2 : tie.Need-absorb-requires-2
+absorb-requires-2 c κs = (rw (c .before .before .before .pre .0) full-lane, omega (arith, room, c .before .before .before .pre .0))
+
+permute12-requires : tie.Need-permute12-requires
+permute12-requires c κs = search needs
+
+returns : tie.Need-returns
+returns c = rw (← c .before .before .before .absorb .ensures, ← c .before .before .before .before .before .pre .0) (c .permute12 .ensures ∙ ap riverF (c .before .absorb2 .ensures))
+
+pub finish-spec : {M : Type 1} → statement M
+finish-spec =
+    tie.close
+    (tie.spec absorb-requires slice-aggregate-absorb absorb-requires-2 permute12-requires returns)

@@ -1,0 +1,4 @@
+pub mod Knots
+pub mod Opens
+pub mod Step
+pub mod Walk

@@ -1,0 +1,91 @@
+use mathlib.Core.Path.{_≡_, refl, sym, ap, _∙_}
+use native.Mathlib.Omega.{arith}
+use lib.ListN.{length}
+use Rattle.keccak.specs.State.{bytes}
+use Rattle.motorist.specs.Instance.{river}
+use Rattle.motorist.specs.Keyak.{riverF}
+use Rattle.motorist.proofs.Instances.{river-sound}
+use Rattle.calls.specs.Outcome.{Outcome}
+use Rattle.calls.proofs.Meets.{message-fine, start-low, start-lane, unwrap-refused, unwrap-done, unwrap-wrong}
+use Rattle.river.specs.River.{viewOf, message, turn}
+use borrow.Author.Needs.{needs}
+use Rattle.river.proofs.unwrap.Statement.{statement}
+use Rattle.river.proofs.unwrap.Tie as tie
+
+message-refusal-requires : tie.Need-message-refusal-requires
+message-refusal-requires c κs = search needs
+
+refused-requires : tie.Need-refused-requires
+refused-requires c κs = search needs
+
+returns : tie.Need-returns
+returns c =
+    let a = c .before .before .before .before .before .before .before .args in
+    rw (c .refused .ensures) (ap (λ (o : Outcome). (turn (a .session) o, o .out)) (sym (unwrap-refused river riverF (viewOf (a .session)) (message (a .text .now) (a .meta .now) (a .forget)) (a .out .now) (a .tag .now) (c .before .before .message-refusal .result) (c .before .before .message-refusal .ensures) (c .before .if1 .taken))))
+
+river-rates-requires : tie.Need-river-rates-requires
+river-rates-requires c κs = search needs
+
+message-requires : tie.Need-message-requires
+message-requires c κs =
+    let a = c .before .before .before .before .before .before .before .before .before .args in
+    let k = message-fine (viewOf (a .session)) (length (a .text .now)) (length (a .meta .now)) (length (a .out .now)) (length (a .tag .now)) (c .before .before .before .before .message-refusal .result) (c .before .before .before .before .message-refusal .ensures) (c .before .before .before .if1 .left) in
+    ((c .before .river-rates .ensures, start-low river river-sound (viewOf (a .session)) (k .start), start-lane 4 refl refl (viewOf (a .session)) (k .start), k .room), (k .text, k .meta))
+
+tag-is-requires : tie.Need-tag-is-requires
+tag-is-requires c κs = search needs
+
+done-requires : tie.Need-done-requires
+done-requires c κs = search needs
+
+same-length : tie.Need-same-length
+same-length c = search needs
+
+returns-2 : tie.Need-returns-2
+returns-2 c =
+    let a = c .before .before .before .before .before .before .before .before .before .before .before .before .before .before .before .before .args in
+    let r = c .before .before .before .before .before .before .message in
+    let e = unwrap-done river riverF (viewOf (a .session)) (message (a .text .now) (a .meta .now) (a .forget)) (a .out .now) (a .tag .now) (c .before .before .before .before .before .before .before .before .before .before .before .message-refusal .result) (c .before .before .before .before .before .before .before .before .before .before .before .message-refusal .ensures) (c .before .before .before .before .before .before .before .before .before .before .if1 .left) (bytes 4 (r .result .lanes)) (r .result .runs) _ (r .ensures .0) (r .ensures .1 .0) (r .ensures .1 .1) (sym (c .before .before .tag-is .ensures) ∙ c .before .if2 .taken) in
+    rw (c .done .ensures) (ap (λ (o : Outcome). (turn (a .session) o, o .out)) (sym e))
+
+clear-front-requires : tie.Need-clear-front-requires
+clear-front-requires c κs =
+    let a = c .before .before .before .before .before .before .before .before .before .before .before .before .before .before .before .before .args in
+    let k = message-fine (viewOf (a .session)) (length (a .text .now)) (length (a .meta .now)) (length (a .out .now)) (length (a .tag .now)) (c .before .before .before .before .before .before .before .before .before .before .before .message-refusal .result) (c .before .before .before .before .before .before .before .before .before .before .before .message-refusal .ensures) (c .before .before .before .before .before .before .before .before .before .before .if1 .left) in
+    let room = k .room in
+    search needs
+
+failed-requires : tie.Need-failed-requires
+failed-requires c κs = search needs
+
+refused-requires-2 : tie.Need-refused-requires-2
+refused-requires-2 c κs = search needs
+
+same-length-2 : tie.Need-same-length-2
+same-length-2 c = search needs
+
+returns-3 : tie.Need-returns-3
+returns-3 c =
+    let a = c .before .before .before .before .before .before .before .before .before .before .before .before .before .before .before .before .before .before .before .before .before .args in
+    let r = c .before .before .before .before .before .before .before .before .before .before .before .message in
+    let e = unwrap-wrong river riverF (viewOf (a .session)) (message (a .text .now) (a .meta .now) (a .forget)) (a .out .now) (a .tag .now) (c .before .before .before .before .before .before .before .before .before .before .before .before .before .before .before .before .message-refusal .result) (c .before .before .before .before .before .before .before .before .before .before .before .before .before .before .before .before .message-refusal .ensures) (c .before .before .before .before .before .before .before .before .before .before .before .before .before .before .before .if1 .left) river-sound (bytes 4 (r .result .lanes)) _ _ (r .ensures .0) (r .ensures .1 .0) (sym (c .before .before .before .before .before .before .before .tag-is .ensures) ∙ c .before .before .before .before .before .before .if2 .left) (c .before .before .before .before .clear-front .ensures) in
+    rw (c .refused2 .ensures, c .before .failed .ensures) (ap (λ (o : Outcome). (turn (a .session) o, o .out)) (sym e))
+
+pub unwrap-spec : {M : Type 1} → statement M
+unwrap-spec =
+    tie.close
+    (tie.spec
+    message-refusal-requires
+    refused-requires
+    returns
+    river-rates-requires
+    message-requires
+    tag-is-requires
+    done-requires
+    same-length
+    returns-2
+    clear-front-requires
+    failed-requires
+    refused-requires-2
+    same-length-2
+    returns-3)

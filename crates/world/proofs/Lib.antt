@@ -1,0 +1,2 @@
+-- The law of digits that `agrees` cites.
+pub mod Digits

@@ -1,0 +1,2 @@
+-- What bytes are in hexadecimal.
+pub mod Hex

@@ -100,16 +100,8 @@ pub fn wrap(
         return refused(why, session);
     }
     let lanes = session.lanes;
-    let ran = piston64::message(
-        motorist::lake_rates(),
-        lanes,
-        at,
-        text,
-        meta,
-        forget,
-        out,
-        false,
-    );
+    let rates = motorist::lake_rates();
+    let ran = piston64::message(rates, lanes, at, text, meta, forget, out, false);
     let after = ran.lanes;
     lanes64::squeeze(after, tag);
     done(after, 16, text.len(), ran.runs)
@@ -133,16 +125,8 @@ pub fn unwrap(
         return refused(why, session);
     }
     let lanes = session.lanes;
-    let ran = piston64::message(
-        motorist::lake_rates(),
-        lanes,
-        at,
-        text,
-        meta,
-        forget,
-        out,
-        true,
-    );
+    let rates = motorist::lake_rates();
+    let ran = piston64::message(rates, lanes, at, text, meta, forget, out, true);
     let after = ran.lanes;
     if tag_is(after, tag) {
         return done(after, 16, text.len(), ran.runs);
@@ -170,7 +154,8 @@ pub fn start(key: &[u8], nonce: &[u8], forget: bool, choice: StartTag, tag: &mut
         return refused(why, unstarted());
     }
     let asked = table::is_asked(choice);
-    let ran = piston64::start(motorist::lake_rates(), key, nonce, forget, asked);
+    let rates = motorist::lake_rates();
+    let ran = piston64::start(rates, key, nonce, forget, asked);
     let lanes = ran.lanes;
     match choice {
         StartTag::None => done(lanes, 0, 0, ran.runs),

@@ -1,13 +1,10 @@
 -- What the code of an instance has to show, call by call, over any instance: the refusal that was found, or the work that was done,
 -- is the definition's outcome. Lake and River cite these.
 use mathlib.Core.Path.{_≡_, refl, sym, ap, _∙_}
-use mathlib.Core.Bool.{Bool, true, false, not, _&&_, _||_}
+use mathlib.Core.Bool.{Bool, true, false}
 use mathlib.Core.List.{List, [], _∷_, _++_}
-use mathlib.Core.Logic.{_⊎_, inl, inr}
 use Prim.Native.Nat.{ℕ, zero, suc, _*_, _%_, _^_, _≤_, _<_}
 use native.Mathlib.Omega.{arith}
-use borrow.Author.Tests.{ltb-false, leb-true, eqb-true}
-use lib.Dec.{ltb, leb, eqb}
 use lib.ListN.{length, getD, take, drop, replicate}
 use lib.Seq.{drop-at}
 use Rattle.motorist.proofs.Rides.{message-output}
@@ -15,84 +12,29 @@ use Rattle.keccak.specs.State.{bytes, lanesFrom}
 use Rattle.keccak.proofs.State.{lanes-bytes}
 use Rattle.table.specs.Numbers.{done, tag-differs}
 use Rattle.table.specs.Refusals.{first}
-use Rattle.table.specs.Choices.{asked, riding}
+use Rattle.table.specs.Choices.{asked}
 use Rattle.table.specs.declared.StartTag.{StartTag}
 use Rattle.table.specs.declared.StartTag.the-variants.{None, Produced, Checked}
-use Rattle.table.proofs.Exact.{done-none}
+use Rattle.table.proofs.Exact.{exact}
 use Rattle.slices.specs.Same.{sameBytes}
-use Rattle.motorist.specs.Instance.{Instance, Sound, textRate, tagLength}
+use Rattle.motorist.specs.Instance.{Instance, Sound, tagLength}
 use Rattle.motorist.specs.Piston.{Bytes}
 use Rattle.motorist.specs.Engine.{Ride, States}
 use Rattle.motorist.specs.Motorist.{Start, Message, taken, start, message}
-use Rattle.calls.specs.Session.{Session, live, Next, same, none, broken, rides}
+use Rattle.calls.specs.Session.{Session, same, none, broken, rides}
+use Rattle.calls.proofs.Allowed.{Allowed, AllowedStart, allowed, allowed-start, live-fits}
 use Rattle.calls.specs.Outcome.{Outcome, answer, refused, unless, messageRules, startRules, wrapped, unwrapped, begun, checked, started, wrapOf, unwrapOf, startOf}
 
 -- lanes are those of their bytes, w bytes a lane
 pub lanes-back : (w n : ℕ) (l : List ℕ) → length l ≡ n → ((i : ℕ) → getD l i 0 < 2 ^ (8 * w)) → lanesFrom w n (bytes w l) ≡ l
 lanes-back w n l e h = rw (← e) (lanes-bytes w l h)
 
--- ---- where nothing is refused
-not-false : (b : Bool) → not b ≡ false → b ≡ true
-not-false true e = refl
-not-false false e = absurd (let z : _≡_ {A = ℕ} 0 1 = cc in omega arith)
+-- ---- where no refusal was found
+pub message-allowed : (x : Session) (t m d g why : ℕ) → why ≡ first (messageRules x t m d g) → why ≡ 0 → Allowed x t m d g
+message-allowed x t m d g why e z = allowed x t m d g (exact (messageRules x t m d g) (omega arith) .done .0 (sym e ∙ z))
 
-pub both : (a b : Bool) → (a && b) ≡ true → (a ≡ true) × (b ≡ true)
-both true b e = (refl, e)
-both false b e = absurd (let z : _≡_ {A = ℕ} 0 1 = cc in omega arith)
-
-either : (a b : Bool) → (a || b) ≡ true → (a ≡ true) ⊎ (b ≡ true)
-either true b e = inl refl
-either false b e = inr e
-
--- what a message that is not refused has: w bytes a lane
-pub record Fine (x : Session) (t m d g : ℕ) : Type 0 where
-  pub start : (x .at ≡ 0) ⊎ (x .at ≡ tagLength)
-  pub text : t ≤ 65535
-  pub meta : m ≤ 65535
-  pub room : t ≤ d
-  pub tag : g ≡ tagLength
-
-pub message-fine : (x : Session) (t m d g why : ℕ) → why ≡ first (messageRules x t m d g) → why ≡ 0 → Fine x t m d g
-message-fine x t m d g why e z =
-    let n = done-none (messageRules x t m d g) (omega arith, (omega arith, (omega arith, (omega arith, (omega arith, tt))))) (sym e ∙ z) in
-    let l = both (riding (x .phase)) (eqb (x .at) 0 || eqb (x .at) tagLength) (not-false (live x) (n .0)) in
-    record {
-      start = at (either (eqb (x .at) 0) (eqb (x .at) tagLength) (l .1));
-      text = ltb-false 65535 t (n .1 .0);
-      meta = ltb-false 65535 m (n .1 .1 .0);
-      room = ltb-false d t (n .1 .1 .1 .0);
-      tag = eqb-true g tagLength (not-false (eqb g tagLength) (n .1 .1 .1 .1 .0));
-    }
-  where
-    at : (eqb (x .at) 0 ≡ true) ⊎ (eqb (x .at) tagLength ≡ true) → (x .at ≡ 0) ⊎ (x .at ≡ tagLength)
-    at (inl h) = inl (eqb-true (x .at) 0 h)
-    at (inr h) = inr (eqb-true (x .at) tagLength h)
-
--- so its text starts with a lane, below the text rate
-pub start-low : (i : Instance) → Sound i → (x : Session) → (x .at ≡ 0) ⊎ (x .at ≡ tagLength) → x .at < textRate i
-start-low i ok x (inl h) = omega (arith, ok .tagFits)
-start-low i ok x (inr h) = omega (arith, ok .tagFits)
-
-pub start-lane : (w : ℕ) → 0 % w ≡ 0 → tagLength % w ≡ 0 → (x : Session) → (x .at ≡ 0) ⊎ (x .at ≡ tagLength) → x .at % w ≡ 0
-start-lane w z l x (inl h) = rw h z
-start-lane w z l x (inr h) = rw h l
-
-pub record FineStart (k n : ℕ) (choice : StartTag) (g : ℕ) : Type 0 where
-  pub long : 16 ≤ k
-  pub short : k ≤ 32
-  pub nonce : n ≤ 1024
-  pub tag : asked choice ≡ true → g ≡ tagLength
-
-pub start-fine : (k n : ℕ) (choice : StartTag) (g why : ℕ) → why ≡ first (startRules k n choice g) → why ≡ 0 → FineStart k n choice g
-start-fine k n choice g why e z =
-    let r = done-none (startRules k n choice g) (omega arith, (omega arith, (omega arith, tt))) (sym e ∙ z) in
-    let l = both (leb 16 k) (leb k 32) (not-false (leb 16 k && leb k 32) (r .0)) in
-    record {
-      long = leb-true 16 k (l .0);
-      short = leb-true k 32 (l .1);
-      nonce = ltb-false 1024 n (r .1 .0);
-      tag = λ a. eqb-true g tagLength (not-false (eqb g tagLength) (ap (λ (b : Bool). b && not (eqb g tagLength)) (sym a) ∙ r .1 .1 .0));
-    }
+pub start-allowed : (k n : ℕ) (choice : StartTag) (g why : ℕ) → why ≡ first (startRules k n choice g) → why ≡ 0 → AllowedStart k n choice g
+start-allowed k n choice g why e z = allowed-start k n choice g (exact (startRules k n choice g) (omega arith) .done .0 (sym e ∙ z))
 
 -- ---- a refusal
 unless-refused : (why : ℕ) (r : ℕ → Outcome) (o : Outcome) → (why ≡ 0 → ⊥) → unless why r o ≡ r why
@@ -123,7 +65,7 @@ module _ (i : Instance) (f : Bytes → Bytes) (x : Session) (m : Message) (out g
         → wrapOf i f x m out g ≡ record { answer = answer done (length (m .text)) n; session = rides s tagLength; out = o; tag = t })
     unfolding wrapOf
     wrap-done t hs ho hn ht =
-        let k = message-fine x (length (m .text)) (length (m .meta)) (length out) (length g) why found ok in
+        let k = message-allowed x (length (m .text)) (length (m .meta)) (length out) (length g) why found ok in
         let t′ : t ≡ take tagLength s = rw (k .tag) at ht in
         rw (← found, unless-done why _ _ ok, t′, ho, hn, ← hs) refl
 
@@ -139,8 +81,8 @@ module _ (i : Instance) (f : Bytes → Bytes) (x : Session) (m : Message) (out g
       → unwrapOf i f x m g out ≡ record { answer = answer tag-differs 0 0; session = broken; out = o; tag = g })
   unfolding unwrapOf
   unwrap-wrong ok sound s d o hs hd ht ho =
-      let k = message-fine x (length (m .text)) (length (m .meta)) (length out) (length g) why found ok in
-      let l = message-output i f sound true (x .state ∷ []) (x .at) (start-low i sound x (k .start)) m in
+      let k = message-allowed x (length (m .text)) (length (m .meta)) (length out) (length g) why found ok in
+      let l = message-output i f sound true (x .state ∷ []) (x .at) (live-fits i sound x (k .session)) m in
       let e : drop (length (m .text)) d ≡ drop (length (m .text)) out = ap (drop (length (m .text))) hd ∙ drop-at (message i f true (x .state ∷ []) (x .at) m .output) (drop (length (m .text)) out) (length (m .text)) l in
       rw (← found, unless-done why _ _ ok, ho, e, ← hs, ht) refl
 
@@ -166,7 +108,7 @@ module _ (i : Instance) (f : Bytes → Bytes) (key nonce : Bytes) (forgets : Boo
     pub start-produced : (t : Bytes) → choice ≡ Produced → s ∷ [] ≡ ride .states → n ≡ length (ride .blocks) → t ≡ take (length g) s
         → startOf i f key nonce forgets choice g ≡ record { answer = answer done 0 n; session = rides s tagLength; out = []; tag = t }
     start-produced t h hs hn ht =
-        let k = start-fine (length key) (length nonce) choice (length g) why found ok in
+        let k = start-allowed (length key) (length nonce) choice (length g) why found ok in
         let t′ : t ≡ take tagLength s = rw (k .tag (rw h refl)) at ht in
         start-is ∙ rw (hn, t′, ← hs, h) refl
 

@@ -41,3 +41,10 @@ after i x same = x
 after i x none = unstarted i
 after i x broken = failed i
 after i x (rides s at) = ridingOn s at
+
+-- the same of an instance's record x, where recordOf makes the record of a session
+abbrev pub become : {R : Type 0} → Instance → (Session → R) → R → Next → R
+become i recordOf x same = x
+become i recordOf x none = recordOf (unstarted i)
+become i recordOf x broken = recordOf (failed i)
+become i recordOf x (rides s at) = recordOf (ridingOn s at)

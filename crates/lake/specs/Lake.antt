@@ -8,7 +8,6 @@ use Rattle.motorist.specs.Piston.{Bytes}
 use Rattle.motorist.specs.Motorist.{Message}
 use Rattle.motorist.specs.Keyak.{lakeF}
 use Rattle.calls.specs.Session as the-calls
-use Rattle.calls.specs.Session.{Next, same, none, broken, rides}
 use Rattle.calls.specs.Outcome as outcome
 use Rattle.calls.specs.Outcome.{Outcome}
 use Rattle.lake.specs.declared.Session.{Session}
@@ -32,19 +31,12 @@ failed = recordOf (the-calls.failed lake)
 abbrev pub riding : Bytes → ℕ → Session
 riding s at = recordOf (the-calls.ridingOn s at)
 
--- the record that a call gives back for the one it was given
-abbrev pub become : Session → Next → Session
-become x same = x
-become x none = unstarted
-become x broken = failed
-become x (rides s at) = riding s at
-
 -- ---- the calls
 abbrev pub message : (text meta : Bytes) → Bool → Message
 message text meta forgets = record { text = text; meta = meta; forgets = forgets }
 
 abbrev pub turn : Session → Outcome → Turn
-turn x o = record { answer = o .answer; session = become x (o .session) }
+turn x o = record { answer = o .answer; session = the-calls.become lake recordOf x (o .session) }
 
 -- wrap: what is given back, the output, the tag buffer
 abbrev pub wrapOf : Session → Message → (out g : Bytes) → Turn × Bytes × Bytes

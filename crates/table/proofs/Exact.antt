@@ -2,10 +2,11 @@
 -- before it does, and 0 exactly when no rule holds. Calls cite these; a new refusal is one rule more and no new proof.
 use mathlib.Core.Path.{_≡_, refl, sym, ap, ap₂, _∙_}
 use mathlib.Core.Bool.{Bool, true, false}
+use mathlib.Core.Logic.{_↔_}
 use mathlib.Core.List.{List, [], _∷_, _++_}
 use Prim.Native.Nat.{ℕ, zero, suc, _<_}
 use native.Mathlib.Omega.{arith}
-use Rattle.table.specs.Refusals.{Rule, rule, orElse, first, None, First}
+use Rattle.table.specs.Refusals.{Rule, rule, orElse, first, ifDone, None, First}
 
 -- every number of the list is a refusal, not 0
 abbrev pub Refuses : List Rule → Type 0
@@ -44,3 +45,58 @@ given-first n (r ∷ rs) e = by (r .condition) (r .number) e (given-first n rs)
     by false m d k =
         let f : First (suc n) rs = k d in
         record { before = rule false m ∷ f .before; after = f .after; split = ap (λ (q : List Rule). rule false m ∷ q) (f .split); none = (refl, f .none) }
+
+-- both together: what a call's number n says of its rules
+pub record Exact (n : ℕ) (rs : List Rule) : Type 0 where
+  pub refused : (k : ℕ) → (n ≡ suc k) ↔ First (suc k) rs
+  pub done : (n ≡ 0) ↔ None rs
+
+pub exact : (rs : List Rule) → Refuses rs → Exact (first rs) rs
+exact rs p = record { refused = λ k. (given-first k rs, first-given (suc k) rs); done = (done-none rs p, none-done rs) }
+
+-- the same where the number is known to be the first rule's
+pub exact-is : {n : ℕ} (rs : List Rule) → Refuses rs → n ≡ first rs → Exact n rs
+exact-is rs p e = rw e (exact rs p)
+
+-- ---- lists of rules
+-- each number of the list is below k
+abbrev pub Below : ℕ → List Rule → Type 0
+Below k [] = Unit {0}
+Below k (r ∷ rs) = (r .number < k) × Below k rs
+
+pub first-below : (k : ℕ) (rs : List Rule) → 0 < k → Below k rs → first rs < k
+first-below k [] h p = h
+first-below k (r ∷ rs) h p = by (r .condition) (first-below k rs h (p .1))
+  where
+    by : (b : Bool) → first rs < k → orElse b (r .number) (first rs) < k
+    by true rest = p .0
+    by false rest = rest
+
+pub none-front : (rs qs : List Rule) → None (rs ++ qs) → None rs
+none-front [] qs h = tt
+none-front (r ∷ rs) qs h = (h .0, none-front rs qs (h .1))
+
+pub none-both : (rs qs : List Rule) → None rs → None qs → None (rs ++ qs)
+none-both [] qs h l = l
+none-both (r ∷ rs) qs h l = (h .0, none-both rs qs (h .1) l)
+
+-- ---- the outcome by the number
+-- of two lists in a row the second is asked where the first is done
+pub first-append : (qs rs : List Rule) → Refuses qs → first (qs ++ rs) ≡ ifDone (first qs) (first rs) (first qs)
+first-append [] rs p = refl
+first-append (q ∷ qs) rs p = by (q .condition) (q .number) (p .0) (first-append qs rs (p .1))
+  where
+    by : (b : Bool) (n : ℕ) → 0 < n → first (qs ++ rs) ≡ ifDone (first qs) (first rs) (first qs)
+        → orElse b n (first (qs ++ rs)) ≡ ifDone (orElse b n (first qs)) (first rs) (orElse b n (first qs))
+    by true zero h e = absurd (omega arith)
+    by true (suc n) h e = refl
+    by false n h e = e
+
+pub not-done : {A : Type 0} (n : ℕ) (new old : A) → (n ≡ 0 → ⊥) → ifDone n new old ≡ old
+not-done zero new old h = absurd (h refl)
+not-done (suc n) new old h = refl
+
+-- what is done counts only where the call is done
+pub when-done : {A : Type 0} (n : ℕ) (new same old : A) → (n ≡ 0 → new ≡ same) → ifDone n new old ≡ ifDone n same old
+when-done zero new same old h = h refl
+when-done (suc n) new same old h = refl

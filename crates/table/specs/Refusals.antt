@@ -2,7 +2,7 @@
 use mathlib.Core.Path.{_≡_}
 use mathlib.Core.Bool.{Bool, true, false}
 use mathlib.Core.List.{List, [], _∷_, _++_}
-use Prim.Native.Nat.{ℕ}
+use Prim.Native.Nat.{ℕ, zero, suc}
 use Rattle.table.specs.Numbers.{done}
 
 -- where the condition holds the call is refused by the number
@@ -21,6 +21,11 @@ orElse false n rest = rest
 abbrev pub first : List Rule → ℕ
 first [] = done
 first (r ∷ rs) = orElse (r .condition) (r .number) (first rs)
+
+-- what the call does where it is done, and what is there otherwise
+abbrev pub ifDone : {A : Type 0} → ℕ → A → A → A
+ifDone zero new old = new
+ifDone (suc n) new old = old
 
 -- none of the conditions holds
 abbrev pub None : List Rule → Type 0

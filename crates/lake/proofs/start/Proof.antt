@@ -7,7 +7,7 @@ use Rattle.motorist.specs.Keyak.{lakeF}
 use borrow.Author.Needs.{needs}
 use Rattle.table.specs.declared.StartTag.the-variants.{None, Produced, Checked}
 use Rattle.calls.specs.Outcome.{Outcome}
-use Rattle.calls.proofs.Meets.{start-fine, start-refused, start-untagged, start-produced, start-right, start-wrong}
+use Rattle.calls.proofs.Meets.{start-allowed, start-refused, start-untagged, start-produced, start-right, start-wrong}
 use Rattle.lake.specs.Lake.{unstarted, turn}
 use Rattle.lake.proofs.start.Statement.{statement}
 use Rattle.lake.proofs.start.Tie as tie
@@ -35,7 +35,7 @@ lake-rates-requires c κs = search needs
 start-requires : tie.Need-start-requires
 start-requires c κs =
     let a = c .before .before .before .before .before .before .before .args in
-    let k = start-fine (length (a .key .now)) (length (a .nonce .now)) (a .choice) (length (a .tag .now)) (c .before .before .before .start-refusal .result) (c .before .before .before .start-refusal .ensures) (c .before .before .if1 .left) in
+    let k = start-allowed (length (a .key .now)) (length (a .nonce .now)) (a .choice) (length (a .tag .now)) (c .before .before .before .start-refusal .result) (c .before .before .before .start-refusal .ensures) (c .before .before .if1 .left) in
     (c .lake-rates .ensures, k .short, k .nonce)
 
 enum-told : tie.Need-enum-told
@@ -50,7 +50,7 @@ enum-told-2 c = search needs
 squeeze-requires : tie.Need-squeeze-requires
 squeeze-requires c κs =
     let a = c .before .before .before .before .before .before .before .before .before .before .before .before .args in
-    let k = start-fine (length (a .key .now)) (length (a .nonce .now)) (a .choice) (length (a .tag .now)) (c .before .before .before .before .before .before .before .before .start-refusal .result) (c .before .before .before .before .before .before .before .before .start-refusal .ensures) (c .before .before .before .before .before .before .before .if1 .left) in
+    let k = start-allowed (length (a .key .now)) (length (a .nonce .now)) (a .choice) (length (a .tag .now)) (c .before .before .before .before .before .before .before .before .start-refusal .result) (c .before .before .before .before .before .before .before .before .start-refusal .ensures) (c .before .before .before .before .before .before .before .if1 .left) in
     let v : a .choice ≡ Produced = search needs in
     omega (arith, k .tag (rw v refl))
 

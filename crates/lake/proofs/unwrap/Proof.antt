@@ -6,7 +6,8 @@ use Rattle.motorist.specs.Instance.{lake}
 use Rattle.motorist.specs.Keyak.{lakeF}
 use Rattle.motorist.proofs.Instances.{lake-sound}
 use Rattle.calls.specs.Outcome.{Outcome}
-use Rattle.calls.proofs.Meets.{message-fine, start-low, start-lane, unwrap-refused, unwrap-done, unwrap-wrong}
+use Rattle.calls.proofs.Allowed.{live-fits, live-lane}
+use Rattle.calls.proofs.Meets.{message-allowed, unwrap-refused, unwrap-done, unwrap-wrong}
 use Rattle.lake.specs.Lake.{viewOf, message, turn}
 use borrow.Author.Needs.{needs}
 use Rattle.lake.proofs.unwrap.Statement.{statement}
@@ -29,8 +30,8 @@ lake-rates-requires c κs = search needs
 message-requires : tie.Need-message-requires
 message-requires c κs =
     let a = c .before .before .before .before .before .before .before .before .before .args in
-    let k = message-fine (viewOf (a .session)) (length (a .text .now)) (length (a .meta .now)) (length (a .out .now)) (length (a .tag .now)) (c .before .before .before .before .message-refusal .result) (c .before .before .before .before .message-refusal .ensures) (c .before .before .before .if1 .left) in
-    ((c .before .lake-rates .ensures, start-low lake lake-sound (viewOf (a .session)) (k .start), start-lane 8 refl refl (viewOf (a .session)) (k .start), k .room), (k .text, k .meta))
+    let k = message-allowed (viewOf (a .session)) (length (a .text .now)) (length (a .meta .now)) (length (a .out .now)) (length (a .tag .now)) (c .before .before .before .before .message-refusal .result) (c .before .before .before .before .message-refusal .ensures) (c .before .before .before .if1 .left) in
+    ((c .before .lake-rates .ensures, live-fits lake lake-sound (viewOf (a .session)) (k .session), live-lane 8 refl refl (viewOf (a .session)) (k .session), k .output), (k .text, k .meta))
 
 tag-is-requires : tie.Need-tag-is-requires
 tag-is-requires c κs = search needs
@@ -51,8 +52,8 @@ returns-2 c =
 clear-front-requires : tie.Need-clear-front-requires
 clear-front-requires c κs =
     let a = c .before .before .before .before .before .before .before .before .before .before .before .before .before .before .before .before .args in
-    let k = message-fine (viewOf (a .session)) (length (a .text .now)) (length (a .meta .now)) (length (a .out .now)) (length (a .tag .now)) (c .before .before .before .before .before .before .before .before .before .before .before .message-refusal .result) (c .before .before .before .before .before .before .before .before .before .before .before .message-refusal .ensures) (c .before .before .before .before .before .before .before .before .before .before .if1 .left) in
-    let room = k .room in
+    let k = message-allowed (viewOf (a .session)) (length (a .text .now)) (length (a .meta .now)) (length (a .out .now)) (length (a .tag .now)) (c .before .before .before .before .before .before .before .before .before .before .before .message-refusal .result) (c .before .before .before .before .before .before .before .before .before .before .before .message-refusal .ensures) (c .before .before .before .before .before .before .before .before .before .before .if1 .left) in
+    let room = k .output in
     search needs
 
 failed-requires : tie.Need-failed-requires

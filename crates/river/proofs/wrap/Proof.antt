@@ -6,7 +6,8 @@ use Rattle.motorist.specs.Instance.{river}
 use Rattle.motorist.specs.Keyak.{riverF}
 use Rattle.motorist.proofs.Instances.{river-sound}
 use Rattle.calls.specs.Outcome.{Outcome}
-use Rattle.calls.proofs.Meets.{message-fine, start-low, start-lane, wrap-refused, wrap-done}
+use Rattle.calls.proofs.Allowed.{live-fits, live-lane}
+use Rattle.calls.proofs.Meets.{message-allowed, wrap-refused, wrap-done}
 use Rattle.river.specs.River.{viewOf, message, turn}
 use borrow.Author.Needs.{needs}
 use Rattle.river.proofs.wrap.Statement.{statement}
@@ -29,13 +30,13 @@ river-rates-requires c κs = search needs
 message-requires : tie.Need-message-requires
 message-requires c κs =
     let a = c .before .before .before .before .before .before .before .before .before .args in
-    let k = message-fine (viewOf (a .session)) (length (a .text .now)) (length (a .meta .now)) (length (a .out .now)) (length (a .tag .now)) (c .before .before .before .before .message-refusal .result) (c .before .before .before .before .message-refusal .ensures) (c .before .before .before .if1 .left) in
-    ((c .before .river-rates .ensures, start-low river river-sound (viewOf (a .session)) (k .start), start-lane 4 refl refl (viewOf (a .session)) (k .start), k .room), (k .text, k .meta))
+    let k = message-allowed (viewOf (a .session)) (length (a .text .now)) (length (a .meta .now)) (length (a .out .now)) (length (a .tag .now)) (c .before .before .before .before .message-refusal .result) (c .before .before .before .before .message-refusal .ensures) (c .before .before .before .if1 .left) in
+    ((c .before .river-rates .ensures, live-fits river river-sound (viewOf (a .session)) (k .session), live-lane 4 refl refl (viewOf (a .session)) (k .session), k .output), (k .text, k .meta))
 
 squeeze-requires : tie.Need-squeeze-requires
 squeeze-requires c κs =
     let a = c .before .before .before .before .before .before .before .before .before .before .before .before .before .before .args in
-    let k = message-fine (viewOf (a .session)) (length (a .text .now)) (length (a .meta .now)) (length (a .out .now)) (length (a .tag .now)) (c .before .before .before .before .before .before .before .before .before .message-refusal .result) (c .before .before .before .before .before .before .before .before .before .message-refusal .ensures) (c .before .before .before .before .before .before .before .before .if1 .left) in
+    let k = message-allowed (viewOf (a .session)) (length (a .text .now)) (length (a .meta .now)) (length (a .out .now)) (length (a .tag .now)) (c .before .before .before .before .before .before .before .before .before .message-refusal .result) (c .before .before .before .before .before .before .before .before .before .message-refusal .ensures) (c .before .before .before .before .before .before .before .before .if1 .left) in
     omega (arith, k .tag)
 
 done-requires : tie.Need-done-requires

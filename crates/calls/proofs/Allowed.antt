@@ -1,0 +1,90 @@
+-- The conditions of the rules in plain words: none of a message's or of a start's holds exactly where these do.
+use mathlib.Core.Path.{_≡_, refl, ap}
+use mathlib.Core.Bool.{Bool, true, false, not, _&&_, _||_}
+use mathlib.Core.Logic.{_⊎_, inl, inr}
+use Prim.Native.Nat.{ℕ, _%_, _≤_, _<_}
+use native.Mathlib.Omega.{arith}
+use borrow.Author.Tests.{ltb-false, le-ltb, leb-true, le-leb, eqb-true, eq-eqb, ne-eqb, not-false}
+use lib.Dec.{leb, eqb}
+use Rattle.table.specs.Refusals.{None}
+use Rattle.table.specs.Choices.{asked, riding}
+use Rattle.table.specs.declared.StartTag.{StartTag}
+use Rattle.slices.proofs.Agree.{and-both}
+use Rattle.motorist.specs.Instance.{Instance, Sound, textRate, tagLength}
+use Rattle.calls.specs.Session.{Session, live}
+use Rattle.calls.specs.Outcome.{messageRules, startRules}
+
+-- a message of t bytes of text and m of metadata, with an output of d bytes and a tag of g
+pub record Allowed (x : Session) (t m d g : ℕ) : Type 0 where
+  pub session : live x ≡ true
+  pub text : t ≤ 65535
+  pub meta : m ≤ 65535
+  pub output : t ≤ d
+  pub tag : g ≡ tagLength
+
+pub allowed : (x : Session) (t m d g : ℕ) → None (messageRules x t m d g) → Allowed x t m d g
+allowed x t m d g h =
+    record {
+      session = not-false (live x) (h .0);
+      text = ltb-false 65535 t (h .1 .0);
+      meta = ltb-false 65535 m (h .1 .1 .0);
+      output = ltb-false d t (h .1 .1 .1 .0);
+      tag = eqb-true g tagLength (not-false (eqb g tagLength) (h .1 .1 .1 .1 .0));
+    }
+
+pub none-refused : (x : Session) (t m d g : ℕ) → Allowed x t m d g → None (messageRules x t m d g)
+none-refused x t m d g a =
+    (ap not (a .session), (le-ltb 65535 t (a .text), (le-ltb 65535 m (a .meta), (le-ltb d t (a .output), (ap not (eq-eqb g tagLength (a .tag)), tt)))))
+
+-- a start with a key of k bytes, a nonce of n and a tag buffer of g
+pub record AllowedStart (k n : ℕ) (choice : StartTag) (g : ℕ) : Type 0 where
+  pub long : 16 ≤ k
+  pub short : k ≤ 32
+  pub nonce : n ≤ 1024
+  pub tag : asked choice ≡ true → g ≡ tagLength
+
+pub allowed-start : (k n : ℕ) (choice : StartTag) (g : ℕ) → None (startRules k n choice g) → AllowedStart k n choice g
+allowed-start k n choice g h =
+    let key = and-both (leb 16 k) (leb k 32) (not-false (leb 16 k && leb k 32) (h .0)) in
+    record {
+      long = leb-true 16 k (key .0);
+      short = leb-true k 32 (key .1);
+      nonce = ltb-false 1024 n (h .1 .0);
+      tag = λ e. eqb-true g tagLength (not-false (eqb g tagLength) (rw e at (h .1 .1 .0)));
+    }
+
+pub none-refused-start : (k n : ℕ) (choice : StartTag) (g : ℕ) → AllowedStart k n choice g → None (startRules k n choice g)
+none-refused-start k n choice g a =
+    (rw (le-leb 16 k (a .long), le-leb k 32 (a .short)), (le-ltb 1024 n (a .nonce), (tagged (asked choice) (a .tag), tt)))
+  where
+    tagged : (b : Bool) → (b ≡ true → g ≡ tagLength) → (b && not (eqb g tagLength)) ≡ false
+    tagged true e = ap not (eq-eqb g tagLength (e refl))
+    tagged false e = refl
+
+-- ---- a session that may be used has a text start that there is, and that leaves room
+either : (a b : Bool) → (a || b) ≡ true → (a ≡ true) ⊎ (b ≡ true)
+either true b e = inl refl
+either false b e = inr e
+
+pub live-fits : (i : Instance) → Sound i → (x : Session) → live x ≡ true → x .at < textRate i
+live-fits i ok x e = go (either (eqb (x .at) 0) (eqb (x .at) tagLength) (and-both (riding (x .phase)) _ e .1))
+  where
+    go : (eqb (x .at) 0 ≡ true) ⊎ (eqb (x .at) tagLength ≡ true) → x .at < textRate i
+    go (inl h) = let z : x .at ≡ 0 = eqb-true (x .at) 0 h in omega (arith, ok .tagFits)
+    go (inr h) = let z : x .at ≡ tagLength = eqb-true (x .at) tagLength h in omega (arith, ok .tagFits)
+
+-- one with another text start may not be used
+pub elsewhere : (x : Session) → (x .at ≡ 0 → ⊥) → (x .at ≡ tagLength → ⊥) → live x ≡ false
+elsewhere x p q = rw (ne-eqb (x .at) 0 p, ne-eqb (x .at) tagLength q) (go (riding (x .phase)))
+  where
+    go : (b : Bool) → (b && false) ≡ false
+    go true = refl
+    go false = refl
+
+-- and is the first byte of a lane of w bytes
+pub live-lane : (w : ℕ) → 0 % w ≡ 0 → tagLength % w ≡ 0 → (x : Session) → live x ≡ true → x .at % w ≡ 0
+live-lane w z l x e = go (either (eqb (x .at) 0) (eqb (x .at) tagLength) (and-both (riding (x .phase)) _ e .1))
+  where
+    go : (eqb (x .at) 0 ≡ true) ⊎ (eqb (x .at) tagLength ≡ true) → x .at % w ≡ 0
+    go (inl h) = rw (eqb-true (x .at) 0 h) z
+    go (inr h) = rw (eqb-true (x .at) tagLength h) l

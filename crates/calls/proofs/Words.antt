@@ -1,0 +1,61 @@
+-- The words that the promises share: a call's ride, a chain in which none is refused, and the same chain in motorist's definition of a session.
+use mathlib.Core.Path.{_≡_}
+use mathlib.Core.List.{List, [], _∷_, map}
+use Prim.Native.Nat.{ℕ}
+use lib.ListN.{length, take}
+use Rattle.table.specs.Numbers.{done}
+use Rattle.table.specs.Choices.{asked}
+use Rattle.table.specs.declared.Phase.the-variants.{Riding}
+use Rattle.motorist.specs.Instance.{Instance, tagLength}
+use Rattle.motorist.specs.Piston.{Bytes}
+use Rattle.motorist.specs.Engine.{Ride}
+use Rattle.motorist.specs.Motorist.{Start, taken, start, message}
+use Rattle.motorist.specs.Session.{Step, step, Steps, steps}
+use Rattle.calls.specs.Session.{Session}
+use Rattle.calls.specs.Outcome.{Outcome}
+use Rattle.calls.specs.Chain.{Call, Opening, outcomes, openingOf, begins}
+
+-- ---- a call
+abbrev pub textLength : Call → ℕ
+textLength c = length (c .message .text)
+
+-- what the call c put out, its outcome being o: as many bytes as the text has
+abbrev pub putOut : Call → Outcome → Bytes
+putOut c o = take (textLength c) (o .out)
+
+-- the definition's ride of the call c on the session x: the one that wrapOf and unwrapOf name
+abbrev pub rideOf : (i : Instance) (f : Bytes → Bytes) → Session → Call → Ride
+rideOf i f x c = message i f (c .decrypt) (x .state ∷ []) (x .at) (c .message)
+
+-- ---- a chain
+-- all are done
+abbrev pub AllDone : List Outcome → Type 0
+AllDone [] = Unit {0}
+AllDone (o ∷ os) = (o .answer .number ≡ done) × AllDone os
+
+-- a start and then calls, each on the session that the one before left, and none refused
+pub record Unrefused (i : Instance) (f : Bytes → Bytes) (a : Opening) (cs : List Call) : Type 0 where
+  pub start : openingOf i f a .answer .number ≡ done
+  pub calls : AllDone (outcomes i f (begins i f a) cs)
+
+-- ---- in motorist's words
+abbrev pub startIn : Opening → Start
+startIn a = record { key = a .key; nonce = a .nonce; tagged = asked (a .choice); forgets = a .forgets }
+
+abbrev pub stepOf : Call → Step
+stepOf c = step (c .decrypt) (c .message)
+
+-- the session of a chain, as it is defined
+abbrev pub defined : (i : Instance) (f : Bytes → Bytes) → Opening → List Call → Steps
+defined i f a cs = steps i f (start i f (startIn a) .states) (taken (asked (a .choice))) (map stepOf cs)
+
+-- where the text behind the calls starts, the first one's starting from `at` on
+abbrev pub textStart : ℕ → List Call → ℕ
+textStart at [] = at
+textStart at (c ∷ cs) = tagLength
+
+-- the session x is under way in the one state after the steps y, the next text from n on
+pub record Stands (x : Session) (y : Steps) (n : ℕ) : Type 0 where
+  pub phase : x .phase ≡ Riding
+  pub states : x .state ∷ [] ≡ y .states
+  pub at : x .at ≡ n

@@ -1,0 +1,307 @@
+// Headers: each case is a header, the 24 bytes that say it, and the number expected of writing the one and of reading the other.
+use crate::tally;
+use crate::tally::Tally;
+use dip::Header;
+
+// A well of the usual kind, and its bytes.
+fn usual() -> Header {
+    Header {
+        name: [0x42, 0x4f, 0x52, 0x45, 0x2d, 0x37, 0, 0, 0, 0, 0, 0],
+        borehole: 4711,
+        year: 2024,
+        month: 6,
+        count: 30,
+        datum: 125_000,
+    }
+}
+
+const USUAL: [u8; 24] = [
+    0x42,
+    0x4f,
+    0x52,
+    0x45,
+    0x2d,
+    0x37,
+    0,
+    0,
+    0,
+    0,
+    0,
+    0,
+    0x67,
+    0x12,
+    0,
+    0,
+    0xe8,
+    0x07,
+    6,
+    30,
+    0x48,
+    0xe8,
+    0x01,
+    0,
+];
+
+fn nothing() -> Header {
+    Header {
+        name: [0; 12],
+        borehole: 0,
+        year: 0,
+        month: 0,
+        count: 0,
+        datum: 0,
+    }
+}
+
+fn same_header(a: Header, b: Header) -> bool {
+    let x = a.name;
+    let y = b.name;
+    let names = slices::same(&x, &y);
+    let dates = (a.year == b.year) & (a.month == b.month);
+    names & (a.borehole == b.borehole) & dates & (a.count == b.count) & (a.datum == b.datum)
+}
+
+// Written: the bytes where it is done, the buffer as it was where it is refused.
+fn wrote(t: Tally, h: Header, raw: [u8; 24], expected: u8) -> Tally {
+    let before = [0xaau8; 24];
+    let mut out = [0xaau8; 24];
+    let number = dip::write_header(h, &mut out);
+    let right = if expected == 0 {
+        slices::same(&out, &raw)
+    } else {
+        slices::same(&out, &before)
+    };
+    tally::count(t, number, expected, right)
+}
+
+// Read: the header where it is done, all fields zero where it is refused.
+fn read(t: Tally, h: Header, raw: [u8; 24], expected: u8) -> Tally {
+    let found = dip::read_header(&raw);
+    let right = if expected == 0 {
+        same_header(found.header, h)
+    } else {
+        same_header(found.header, nothing())
+    };
+    tally::count(t, found.number, expected, right)
+}
+
+fn both(t: Tally, h: Header, raw: [u8; 24], expected: u8) -> Tally {
+    let written = wrote(t, h, raw, expected);
+    read(written, h, raw, expected)
+}
+
+// The usual header with another field, and its bytes with another part.
+fn name(t: Tally, name: [u8; 12], expected: u8) -> Tally {
+    let u = usual();
+    let h = Header {
+        name,
+        borehole: u.borehole,
+        year: u.year,
+        month: u.month,
+        count: u.count,
+        datum: u.datum,
+    };
+    let mut raw = USUAL;
+    slices::copy(&mut raw[0..12], &name);
+    both(t, h, raw, expected)
+}
+
+fn borehole(t: Tally, borehole: u32, bytes: [u8; 4], expected: u8) -> Tally {
+    let mut h = usual();
+    h.borehole = borehole;
+    let mut raw = USUAL;
+    slices::copy(&mut raw[12..16], &bytes);
+    both(t, h, raw, expected)
+}
+
+fn date(t: Tally, year: u16, month: u8, bytes: [u8; 3], expected: u8) -> Tally {
+    let mut h = usual();
+    h.year = year;
+    h.month = month;
+    let mut raw = USUAL;
+    slices::copy(&mut raw[16..19], &bytes);
+    both(t, h, raw, expected)
+}
+
+fn count(t: Tally, count: u8, expected: u8) -> Tally {
+    let mut h = usual();
+    h.count = count;
+    let mut raw = USUAL;
+    raw[19] = count;
+    both(t, h, raw, expected)
+}
+
+fn datum(t: Tally, datum: i32, bytes: [u8; 4], expected: u8) -> Tally {
+    let mut h = usual();
+    h.datum = datum;
+    let mut raw = USUAL;
+    slices::copy(&mut raw[20..24], &bytes);
+    both(t, h, raw, expected)
+}
+
+pub fn names(t: Tally) -> Tally {
+    tally::begin(b"well name");
+    let a = name(t, [0x20, 0, 0, 0, 0, 0, 0, 0, 0, 0, 0, 0], 10);
+    let b = name(a, [0x21, 0, 0, 0, 0, 0, 0, 0, 0, 0, 0, 0], 0);
+    let c = name(b, [0x7e, 0, 0, 0, 0, 0, 0, 0, 0, 0, 0, 0], 0);
+    let d = name(c, [0x7f, 0, 0, 0, 0, 0, 0, 0, 0, 0, 0, 0], 10);
+    let e = name(d, [0; 12], 10);
+    let f = name(e, [0x57; 12], 0);
+    let g = name(
+        f,
+        [
+            0x57,
+            0x57,
+            0x57,
+            0x57,
+            0x57,
+            0x57,
+            0x57,
+            0x57,
+            0x57,
+            0x57,
+            0x57,
+            0x80,
+        ],
+        10,
+    );
+    let h = name(g, [0x57, 0, 0x31, 0, 0, 0, 0, 0, 0, 0, 0, 0], 10);
+    let i = name(h, [0, 0x57, 0, 0, 0, 0, 0, 0, 0, 0, 0, 0], 10);
+    tally::end();
+    i
+}
+
+pub fn boreholes(t: Tally) -> Tally {
+    tally::begin(b"borehole number");
+    let a = borehole(t, 0, [0, 0, 0, 0], 11);
+    let b = borehole(a, 1, [1, 0, 0, 0], 0);
+    let c = borehole(b, 0x0102_0304, [4, 3, 2, 1], 0);
+    let d = borehole(c, 0xffff_ffff, [0xff, 0xff, 0xff, 0xff], 0);
+    tally::end();
+    d
+}
+
+pub fn dates(t: Tally) -> Tally {
+    tally::begin(b"year and month");
+    let a = date(t, 1899, 12, [0x6b, 0x07, 12], 12);
+    let b = date(a, 1900, 1, [0x6c, 0x07, 1], 0);
+    let c = date(b, 2199, 12, [0x97, 0x08, 12], 0);
+    let d = date(c, 2200, 1, [0x98, 0x08, 1], 12);
+    let e = date(d, 2024, 0, [0xe8, 0x07, 0], 12);
+    let f = date(e, 2024, 13, [0xe8, 0x07, 13], 12);
+    let g = date(f, 0, 6, [0, 0, 6], 12);
+    let h = date(g, 65_535, 255, [0xff, 0xff, 0xff], 12);
+    tally::end();
+    h
+}
+
+pub fn counts(t: Tally) -> Tally {
+    tally::begin(b"count of readings");
+    let a = count(t, 0, 0);
+    let b = count(a, 31, 0);
+    let c = count(b, 32, 13);
+    let d = count(c, 255, 13);
+    tally::end();
+    d
+}
+
+pub fn datums(t: Tally) -> Tally {
+    tally::begin(b"datum");
+    let a = datum(t, -500_001, [0xdf, 0x5e, 0xf8, 0xff], 14);
+    let b = datum(a, -500_000, [0xe0, 0x5e, 0xf8, 0xff], 0);
+    let c = datum(b, -1, [0xff, 0xff, 0xff, 0xff], 0);
+    let d = datum(c, 0, [0, 0, 0, 0], 0);
+    let e = datum(d, 9_000_000, [0x40, 0x54, 0x89, 0x00], 0);
+    let f = datum(e, 9_000_001, [0x41, 0x54, 0x89, 0x00], 14);
+    let g = datum(f, 2_147_483_647, [0xff, 0xff, 0xff, 0x7f], 14);
+    let h = datum(g, -2_147_483_648, [0, 0, 0, 0x80], 14);
+    tally::end();
+    h
+}
+
+// Several faults at once: each case puts the first one right.
+fn faulty(t: Tally, borehole: u32, bytes: [u8; 4], month: u8, count: u8, expected: u8) -> Tally {
+    let mut h = usual();
+    h.borehole = borehole;
+    h.month = month;
+    h.count = count;
+    h.datum = 9_000_001;
+    let mut raw = USUAL;
+    raw[18] = month;
+    raw[19] = count;
+    raw[20] = 0x41;
+    raw[21] = 0x54;
+    raw[22] = 0x89;
+    raw[23] = 0;
+    slices::copy(&mut raw[12..16], &bytes);
+    both(t, h, raw, expected)
+}
+
+pub fn orders(t: Tally) -> Tally {
+    tally::begin(b"several faults");
+    let a = both(t, nothing(), [0; 24], 10);
+    let b = faulty(a, 0, [0, 0, 0, 0], 13, 32, 11);
+    let c = faulty(b, 1, [1, 0, 0, 0], 13, 32, 12);
+    let d = faulty(c, 1, [1, 0, 0, 0], 12, 32, 13);
+    let e = faulty(d, 1, [1, 0, 0, 0], 12, 31, 14);
+    tally::end();
+    e
+}
+
+// Bytes given, and bytes lent, of another length than 24.
+fn given(t: Tally, bytes: &[u8], expected: u8) -> Tally {
+    let found = dip::read_header(bytes);
+    tally::count(
+        t,
+        found.number,
+        expected,
+        (expected == 0) | same_header(found.header, nothing()),
+    )
+}
+
+fn lent(t: Tally, h: Header, out: &mut [u8], before: &[u8]) -> Tally {
+    let number = dip::write_header(h, out);
+    tally::count(t, number, 9, slices::same(out, before))
+}
+
+pub fn lengths(t: Tally) -> Tally {
+    tally::begin(b"header length");
+    let raw = USUAL;
+    let a = given(t, &raw[..0], 9);
+    let b = given(a, &raw[..23], 9);
+    let c = given(b, &raw, 0);
+    let d = given(c, &[0; 25], 9);
+    let mut none = [0u8; 0];
+    let mut short = [0xaau8; 23];
+    let mut long = [0xaau8; 25];
+    let e = lent(d, usual(), &mut none, &[0; 0]);
+    let f = lent(e, usual(), &mut short, &[0xaa; 23]);
+    let g = lent(f, nothing(), &mut long, &[0xaa; 25]);
+    tally::end();
+    g
+}
+
+// One series: 1 where the names agree, whatever else differs.
+fn one(t: Tally, a: Header, b: Header, expected: u8) -> Tally {
+    let number = if dip::same_series(a, b) { 1 } else { 0 };
+    tally::count(t, number, expected, true)
+}
+
+pub fn series(t: Tally) -> Tally {
+    tally::begin(b"one series");
+    let u = usual();
+    let mut other = usual();
+    other.borehole = 1;
+    other.year = 1900;
+    other.month = 1;
+    other.count = 0;
+    other.datum = 0;
+    let a = one(t, u, u, 1);
+    let b = one(a, u, other, 1);
+    let mut last = usual();
+    last.name = [0x42, 0x4f, 0x52, 0x45, 0x2d, 0x37, 0, 0, 0, 0, 0, 1];
+    let c = one(b, u, last, 0);
+    let d = one(c, nothing(), usual(), 0);
+    tally::end();
+    d
+}

@@ -1,0 +1,21 @@
+// Tries the dip's calls on both sides of every limit and prints what each answered, a line for each group of cases.
+// What is expected stands in the cases as numbers and bytes of their own: nothing of the library makes it.
+mod header;
+mod readings;
+mod tally;
+
+fn main() {
+    let a = header::names(tally::none());
+    let b = header::boreholes(a);
+    let c = header::dates(b);
+    let d = header::counts(c);
+    let e = header::datums(d);
+    let f = header::orders(e);
+    let g = header::lengths(f);
+    let h = header::series(g);
+    let i = readings::levels(h);
+    let j = readings::sizes(i);
+    let k = readings::lengths(j);
+    let l = readings::months(k);
+    tally::show(b"all", l);
+}

@@ -1,12 +1,11 @@
 -- The demands at Lake, on its records. Each rests on the contracts of lake::start, lake::wrap and lake::unwrap, which are equations with
 -- the definitions that the promises speak of.
-use mathlib.Core.Path.{_≡_, refl, sym, ap, _∙_}
-use mathlib.Core.List.{List, [], _∷_, _++_}
+use mathlib.Core.Path.{_≡_, refl, sym, _∙_}
+use mathlib.Core.List.{List, [], _∷_}
 use native.Mathlib.Omega.{arith}
-use lib.ListN.{length}
 use Rattle.keccak.specs.State.{bytes}
 use Rattle.keccak.proofs.State.{bytes-lanes, keccakBytes-length, keccakBytes-small}
-use Rattle.motorist.specs.Instance.{lake, tagLength}
+use Rattle.motorist.specs.Instance.{lake}
 use Rattle.motorist.specs.Piston.{Bytes}
 use Rattle.motorist.specs.Engine.{run}
 use Rattle.motorist.specs.Motorist.{fresh}
@@ -18,10 +17,10 @@ use Rattle.calls.specs.Chain.{Call, Opening, endOf, begins}
 use Rattle.calls.proofs.Words.{Unrefused}
 use Rattle.calls.proofs.Right.{Right, right}
 use Rattle.calls.proofs.Partner.{Long, Partner, partner}
-use Rattle.calls.proofs.Story.{Story, fed, story, fed-state}
+use Rattle.calls.proofs.Story.{Story, fed, story}
 use Rattle.lake.specs.Lake.{viewOf, recordOf}
 use Rattle.lake.specs.declared.Session.{Session}
-use Rattle.promises.proofs.Records.{endRecord, firstRecord, end-view, end-made, first-view, first-made, same-records}
+use Rattle.promises.proofs.Records.{afterCalls, follows, same-after, run-after}
 
 -- ---- the record: its bytes are those of the definition's state, and every one that a call gave is told by them
 pub lake-gives : (s : Bytes) → State lake (lakeF s)
@@ -30,27 +29,16 @@ lake-gives s = record { long = keccakBytes-length 6 12 s ∙ sym (lake-counts .s
 pub lake-shows : (v : the-calls.Session) → State lake (v .state) → viewOf (recordOf v) ≡ v
 lake-shows v h = rw (bytes-lanes 8 25 (v .state) (h .long ∙ lake-counts .state-is) (h .small)) refl
 
--- the record after a start and calls
+-- the record after a start and calls; it shows the session of the definitions
 abbrev pub lakeAfter : Opening → List Call → Session
-lakeAfter a cs =
-    endRecord 1600 64 256 lakeF lake-sound lake-gives viewOf recordOf lake-shows
-    (firstRecord 1600 64 256 lakeF lake-sound lake-gives viewOf recordOf lake-shows a) cs
+lakeAfter = afterCalls 1600 64 256 lakeF lake-sound lake-gives viewOf recordOf lake-shows
 
 pub lake-follows : (a : Opening) (cs : List Call) → viewOf (lakeAfter a cs) ≡ endOf lake lakeF (begins lake lakeF a) cs
-lake-follows a cs =
-    end-view 1600 64 256 lakeF lake-sound lake-gives viewOf recordOf lake-shows (firstRecord 1600 64 256 lakeF lake-sound lake-gives viewOf recordOf lake-shows a) cs
-    ∙ ap (λ (v : the-calls.Session). endOf lake lakeF v cs) (first-view 1600 64 256 lakeF lake-sound lake-gives viewOf recordOf lake-shows a)
+lake-follows = follows 1600 64 256 lakeF lake-sound lake-gives viewOf recordOf lake-shows
 
 -- two chains that leave equal sessions leave equal records: lanes, phase and text start
 pub lake-same-records : (a p : Opening) (cs ps : List Call) → endOf lake lakeF (begins lake lakeF a) cs ≡ endOf lake lakeF (begins lake lakeF p) ps → lakeAfter a cs ≡ lakeAfter p ps
-lake-same-records a p cs ps e =
-    same-records 1600 64 256 lakeF lake-sound lake-gives viewOf recordOf lake-shows (lakeAfter a cs) (lakeAfter p ps) (made a cs) (made p ps)
-    (lake-follows a cs ∙ e ∙ sym (lake-follows p ps))
-  where
-    made : (q : Opening) (qs : List Call) → lakeAfter q qs ≡ recordOf (viewOf (lakeAfter q qs))
-    made q qs =
-        end-made 1600 64 256 lakeF lake-sound lake-gives viewOf recordOf lake-shows (firstRecord 1600 64 256 lakeF lake-sound lake-gives viewOf recordOf lake-shows q) qs
-        (first-made 1600 64 256 lakeF lake-sound lake-gives viewOf recordOf lake-shows q)
+lake-same-records = same-after 1600 64 256 lakeF lake-sound lake-gives viewOf recordOf lake-shows
 
 -- ---- demand 2: every step of an unrefused chain is the definition's; and a partner who unwraps in step
 pub lake-right : Right lake lakeF
@@ -67,4 +55,4 @@ pub lake-story : Story lake lakeF
 lake-story = story 1600 64 256 lake-sound lakeF
 
 pub lake-run : (a : Opening) (cs : List Call) → Unrefused lake lakeF a cs → bytes 8 (lakeAfter a cs .lanes) ∷ [] ≡ run lake lakeF (fresh lake) (fed lake lakeF a cs)
-lake-run a cs h = ap (λ (v : the-calls.Session). v .state ∷ []) (lake-follows a cs) ∙ fed-state 1600 64 256 lake-sound lakeF a cs h
+lake-run = run-after 1600 64 256 lakeF lake-sound lake-gives viewOf recordOf lake-shows

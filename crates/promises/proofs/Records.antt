@@ -13,8 +13,8 @@ use Rattle.table.specs.declared.StartTag.the-variants.{None, Produced, Checked}
 use Rattle.slices.specs.Same.{sameBytes}
 use Rattle.motorist.specs.Instance.{Instance, Sound, solo, stateLength}
 use Rattle.motorist.specs.Piston.{Bytes}
-use Rattle.motorist.specs.Engine.{Ride}
-use Rattle.motorist.specs.Motorist.{Message, Start, tag, start, wrap, unwrap}
+use Rattle.motorist.specs.Engine.{Ride, run}
+use Rattle.motorist.specs.Motorist.{Message, tag, fresh, start, wrap, unwrap}
 use Rattle.motorist.proofs.OnePiston.{message-given, start-given}
 use Rattle.motorist.proofs.Shape.{State}
 use Rattle.motorist.proofs.Small.{small-zeros}
@@ -23,6 +23,8 @@ use Rattle.calls.specs.Outcome.{Outcome, unless, refused, messageRules, startRu
 use Rattle.calls.specs.Chain.{Call, Opening, callOf, endOf, openingOf, begins}
 use Rattle.calls.proofs.Allowed.{live-fits}
 use Rattle.calls.proofs.Meets.{message-allowed}
+use Rattle.calls.proofs.Words.{Unrefused}
+use Rattle.calls.proofs.Story.{fed, fed-state}
 
 -- what a call leaves of a session is, if it is a new state at all, one that f gave
 pub data Leaves (f : Bytes → Bytes) : Next → Type 0 where
@@ -139,3 +141,21 @@ module _ (b w k : ℕ) (f : Bytes → Bytes) (ok : Sound (solo b w k)) where
 
     pub first-made : (a : Opening) → Made (firstRecord a)
     first-made a = become-made (recordOf (unstarted one)) (start-leaves a) (ap recordOf (sym (shows (unstarted one) zeros)))
+
+    -- ---- a start and then calls
+    abbrev pub afterCalls : Opening → List Call → R
+    afterCalls a cs = endRecord (firstRecord a) cs
+
+    -- the record shows the session of the definitions
+    pub follows : (a : Opening) (cs : List Call) → view (afterCalls a cs) ≡ endOf one f (begins one f a) cs
+    follows a cs = end-view (firstRecord a) cs ∙ ap (λ (v : Session). endOf one f v cs) (first-view a)
+
+    -- two chains that leave equal sessions leave equal records
+    pub same-after : (a p : Opening) (cs ps : List Call) → endOf one f (begins one f a) cs ≡ endOf one f (begins one f p) ps → afterCalls a cs ≡ afterCalls p ps
+    same-after a p cs ps e =
+        same-records (afterCalls a cs) (afterCalls p ps) (end-made (firstRecord a) cs (first-made a)) (end-made (firstRecord p) ps (first-made p))
+        (follows a cs ∙ e ∙ sym (follows p ps))
+
+    -- the record's bytes are the permutation run over the blocks that were fed, from all zeros
+    pub run-after : (a : Opening) (cs : List Call) → Unrefused one f a cs → view (afterCalls a cs) .state ∷ [] ≡ run one f (fresh one) (fed one f a cs)
+    run-after a cs h = ap (λ (v : Session). v .state ∷ []) (follows a cs) ∙ fed-state b w k ok f a cs h

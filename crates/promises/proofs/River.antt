@@ -1,12 +1,11 @@
 -- The demands at River, on its records. Each rests on the contracts of river::start, river::wrap and river::unwrap, which are equations with
 -- the definitions that the promises speak of.
-use mathlib.Core.Path.{_≡_, refl, sym, ap, _∙_}
-use mathlib.Core.List.{List, [], _∷_, _++_}
+use mathlib.Core.Path.{_≡_, refl, sym, _∙_}
+use mathlib.Core.List.{List, [], _∷_}
 use native.Mathlib.Omega.{arith}
-use lib.ListN.{length}
 use Rattle.keccak.specs.State.{bytes}
 use Rattle.keccak.proofs.State.{bytes-lanes, keccakBytes-length, keccakBytes-small}
-use Rattle.motorist.specs.Instance.{river, tagLength}
+use Rattle.motorist.specs.Instance.{river}
 use Rattle.motorist.specs.Piston.{Bytes}
 use Rattle.motorist.specs.Engine.{run}
 use Rattle.motorist.specs.Motorist.{fresh}
@@ -18,10 +17,10 @@ use Rattle.calls.specs.Chain.{Call, Opening, endOf, begins}
 use Rattle.calls.proofs.Words.{Unrefused}
 use Rattle.calls.proofs.Right.{Right, right}
 use Rattle.calls.proofs.Partner.{Long, Partner, partner}
-use Rattle.calls.proofs.Story.{Story, fed, story, fed-state}
+use Rattle.calls.proofs.Story.{Story, fed, story}
 use Rattle.river.specs.River.{viewOf, recordOf}
 use Rattle.river.specs.declared.Session.{Session}
-use Rattle.promises.proofs.Records.{endRecord, firstRecord, end-view, end-made, first-view, first-made, same-records}
+use Rattle.promises.proofs.Records.{afterCalls, follows, same-after, run-after}
 
 -- ---- the record: its bytes are those of the definition's state, and every one that a call gave is told by them
 pub river-gives : (s : Bytes) → State river (riverF s)
@@ -30,27 +29,16 @@ river-gives s = record { long = keccakBytes-length 5 12 s ∙ sym (river-counts 
 pub river-shows : (v : the-calls.Session) → State river (v .state) → viewOf (recordOf v) ≡ v
 river-shows v h = rw (bytes-lanes 4 25 (v .state) (h .long ∙ river-counts .state-is) (h .small)) refl
 
--- the record after a start and calls
+-- the record after a start and calls; it shows the session of the definitions
 abbrev pub riverAfter : Opening → List Call → Session
-riverAfter a cs =
-    endRecord 800 32 256 riverF river-sound river-gives viewOf recordOf river-shows
-    (firstRecord 800 32 256 riverF river-sound river-gives viewOf recordOf river-shows a) cs
+riverAfter = afterCalls 800 32 256 riverF river-sound river-gives viewOf recordOf river-shows
 
 pub river-follows : (a : Opening) (cs : List Call) → viewOf (riverAfter a cs) ≡ endOf river riverF (begins river riverF a) cs
-river-follows a cs =
-    end-view 800 32 256 riverF river-sound river-gives viewOf recordOf river-shows (firstRecord 800 32 256 riverF river-sound river-gives viewOf recordOf river-shows a) cs
-    ∙ ap (λ (v : the-calls.Session). endOf river riverF v cs) (first-view 800 32 256 riverF river-sound river-gives viewOf recordOf river-shows a)
+river-follows = follows 800 32 256 riverF river-sound river-gives viewOf recordOf river-shows
 
 -- two chains that leave equal sessions leave equal records: lanes, phase and text start
 pub river-same-records : (a p : Opening) (cs ps : List Call) → endOf river riverF (begins river riverF a) cs ≡ endOf river riverF (begins river riverF p) ps → riverAfter a cs ≡ riverAfter p ps
-river-same-records a p cs ps e =
-    same-records 800 32 256 riverF river-sound river-gives viewOf recordOf river-shows (riverAfter a cs) (riverAfter p ps) (made a cs) (made p ps)
-    (river-follows a cs ∙ e ∙ sym (river-follows p ps))
-  where
-    made : (q : Opening) (qs : List Call) → riverAfter q qs ≡ recordOf (viewOf (riverAfter q qs))
-    made q qs =
-        end-made 800 32 256 riverF river-sound river-gives viewOf recordOf river-shows (firstRecord 800 32 256 riverF river-sound river-gives viewOf recordOf river-shows q) qs
-        (first-made 800 32 256 riverF river-sound river-gives viewOf recordOf river-shows q)
+river-same-records = same-after 800 32 256 riverF river-sound river-gives viewOf recordOf river-shows
 
 -- ---- demand 2: every step of an unrefused chain is the definition's; and a partner who unwraps in step
 pub river-right : Right river riverF
@@ -67,4 +55,4 @@ pub river-story : Story river riverF
 river-story = story 800 32 256 river-sound riverF
 
 pub river-run : (a : Opening) (cs : List Call) → Unrefused river riverF a cs → bytes 4 (riverAfter a cs .lanes) ∷ [] ≡ run river riverF (fresh river) (fed river riverF a cs)
-river-run a cs h = ap (λ (v : the-calls.Session). v .state ∷ []) (river-follows a cs) ∙ fed-state 800 32 256 river-sound riverF a cs h
+river-run = run-after 800 32 256 riverF river-sound river-gives viewOf recordOf river-shows

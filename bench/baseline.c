@@ -1,4 +1,4 @@
-/* The baseline: KECCAK-f[1600] and KECCAK-f[800] in C, our own, a round unrolled over 25 locals. */
+/* The baseline's permutations in C, our own: KECCAK-p[1600] and KECCAK-p[800], a round unrolled over 25 locals. */
 #include <stddef.h>
 #include <stdint.h>
 #include "baseline.h"
@@ -39,10 +39,10 @@ static const uint64_t RC[24] = {
 
 #define W 64
 #define LANE uint64_t
-void baseline64(uint64_t s[25])
+void baseline64(uint64_t s[25], int rounds)
 {
     EACH(LOAD)
-    for (int r = 0; r < 24; r += 2) {
+    for (int r = 24 - rounds; r < 24; r += 2) {
         ROUND(a, e, r);
         ROUND(e, a, r + 1);
     }
@@ -53,10 +53,10 @@ void baseline64(uint64_t s[25])
 
 #define W 32
 #define LANE uint32_t
-void baseline32(uint32_t s[25])
+void baseline32(uint32_t s[25], int rounds)
 {
     EACH(LOAD)
-    for (int r = 0; r < 22; r += 2) {
+    for (int r = 22 - rounds; r < 22; r += 2) {
         ROUND(a, e, r);
         ROUND(e, a, r + 1);
     }

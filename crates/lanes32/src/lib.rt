@@ -14,37 +14,33 @@ pub fn zero() -> [u32; 25]
     [0; 25]
 }
 
-// The first n lanes' worth of s, from lane q on.
-fn absorb_whole(lanes: [u32; 25], q: usize, n: usize, s: &[u8]) -> [u32; 25]
-    requires { ⌜ (q + n ≤ 25) × (4 * n ≤ length (now s)) ⌝ }
-    ensures { λ r. ⌜ bytes 4 r ≡ xors (bytes 4 lanes) (placed (4 * q) (take (4 * n) (now (s .entry)))) ⌝ }
+// The first n lanes' worth of s xored in from lane q on. Where bytes go in, the lanes are changed in place: a copy for each run
+// of bytes would cost a quarter of the speed.
+fn absorb_whole(lanes: &mut [u32; 25], q: usize, n: usize, s: &[u8])
+    requires { ⌜ (length (now lanes) ≡ 25) × (q + n ≤ 25) × (4 * n ≤ length (now s)) ⌝ }
+    ensures { λ r. ⌜ (length (now (lanes .exit)) ≡ 25) × (bytes 4 (now (lanes .exit)) ≡ xors (bytes 4 (now (lanes .entry))) (placed (4 * q) (take (4 * n) (now (s .entry))))) ⌝ }
 {
-    let mut out = lanes;
     let mut j = 0;
     while j < n {
         let at = q + j;
         let a = 4 * j;
-        out[at] = out[at] ^ endian::load32(&s[a..a + 4]);
+        lanes[at] = lanes[at] ^ endian::load32(&s[a..a + 4]);
         j += 1;
     }
-    out
 }
 
 // The bytes of s xored in from byte p on, which is the first of a lane.
-pub fn absorb(lanes: [u32; 25], p: usize, s: &[u8]) -> [u32; 25]
-    requires { ⌜ (p % 4 ≡ 0) × (p + length (now s) ≤ 100) ⌝ }
-    ensures { λ r. ⌜ bytes 4 r ≡ xors (bytes 4 lanes) (placed p (now (s .entry))) ⌝ }
+pub fn absorb(lanes: &mut [u32; 25], p: usize, s: &[u8])
+    requires { ⌜ (length (now lanes) ≡ 25) × (p % 4 ≡ 0) × (p + length (now s) ≤ 100) ⌝ }
+    ensures { λ r. ⌜ (length (now (lanes .exit)) ≡ 25) × (bytes 4 (now (lanes .exit)) ≡ xors (bytes 4 (now (lanes .entry))) (placed p (now (s .entry)))) ⌝ }
 {
     let q = p / 4;
     let n = s.len() / 4;
-    let whole = absorb_whole(lanes, q, n, s);
-    if s.len() == 4 * n {
-        return whole;
+    absorb_whole(lanes, q, n, s);
+    if s.len() != 4 * n {
+        let at = q + n;
+        lanes[at] = lanes[at] ^ endian::load_part32(&s[4 * n..]);
     }
-    let mut out = whole;
-    let at = q + n;
-    out[at] = out[at] ^ endian::load_part32(&s[4 * n..]);
-    out
 }
 
 // The first n lanes' worth of s under the key stream from lane q on, into the front of out.

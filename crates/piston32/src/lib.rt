@@ -24,11 +24,13 @@ fn crypt(lanes: [u32; 25], at: usize, text: &[u8], out: &mut [u8], decrypt: bool
     ensures { λ r. ⌜ now (out .exit) ≡ mask (bytes 4 lanes) at (now (text .entry)) ⌝ }
 {
     lanes32::stream(lanes, at, text, out);
+    let mut state = lanes;
     if decrypt {
-        lanes32::absorb(lanes, at, out)
+        lanes32::absorb(&mut state, at, out);
     } else {
-        lanes32::absorb(lanes, at, text)
+        lanes32::absorb(&mut state, at, text);
     }
+    state
 }
 
 // What ends every block: metadata, the four offset bytes at the full rate, and the permutation.
@@ -36,9 +38,10 @@ fn finish(full: usize, lanes: [u32; 25], from: usize, meta: &[u8], offsets: [u8;
     requires { ⌜ (full ≡ fullRate river) × (from % 4 ≡ 0) × (from + length (now meta) ≤ 100) ⌝ }
     ensures { λ r. ⌜ bytes 4 r ≡ riverF (xors (xors (bytes 4 lanes) (placed from (now (meta .entry)))) (placed (fullRate river) offsets)) ⌝ }
 {
-    let injected = lanes32::absorb(lanes, from, meta);
-    let marked = lanes32::absorb(injected, full, &offsets);
-    keccak32::permute12(marked)
+    let mut state = lanes;
+    lanes32::absorb(&mut state, from, meta);
+    lanes32::absorb(&mut state, full, &offsets);
+    keccak32::permute12(state)
 }
 
 // One block of the message: the stretch of the text that the cut names goes into the same stretch of out.

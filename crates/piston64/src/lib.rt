@@ -24,11 +24,13 @@ fn crypt(lanes: [u64; 25], at: usize, text: &[u8], out: &mut [u8], decrypt: bool
     ensures { λ r. ⌜ now (out .exit) ≡ mask (bytes 8 lanes) at (now (text .entry)) ⌝ }
 {
     lanes64::stream(lanes, at, text, out);
+    let mut state = lanes;
     if decrypt {
-        lanes64::absorb(lanes, at, out)
+        lanes64::absorb(&mut state, at, out);
     } else {
-        lanes64::absorb(lanes, at, text)
+        lanes64::absorb(&mut state, at, text);
     }
+    state
 }
 
 // What ends every block: metadata, the four offset bytes at the full rate, and the permutation.
@@ -36,9 +38,10 @@ fn finish(full: usize, lanes: [u64; 25], from: usize, meta: &[u8], offsets: [u8;
     requires { ⌜ (full ≡ fullRate lake) × (from % 8 ≡ 0) × (from + length (now meta) ≤ 200) ⌝ }
     ensures { λ r. ⌜ bytes 8 r ≡ lakeF (xors (xors (bytes 8 lanes) (placed from (now (meta .entry)))) (placed (fullRate lake) offsets)) ⌝ }
 {
-    let injected = lanes64::absorb(lanes, from, meta);
-    let marked = lanes64::absorb(injected, full, &offsets);
-    keccak64::permute12(marked)
+    let mut state = lanes;
+    lanes64::absorb(&mut state, from, meta);
+    lanes64::absorb(&mut state, full, &offsets);
+    keccak64::permute12(state)
 }
 
 // One block of the message: the stretch of the text that the cut names goes into the same stretch of out.

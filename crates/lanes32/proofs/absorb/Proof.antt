@@ -1,7 +1,7 @@
 use mathlib.Core.Path.{_≡_}
 use Prim.Native.Nat.{_*_, _/_}
 use native.Mathlib.Omega.{arith}
-use lib.ListN.{length}
+use lib.ListN.{length, length-set}
 use Rattle.keccak.specs.State.{bytes}
 use Rattle.keccak.proofs.State.{Small}
 use Rattle.piston.proofs.Turns.{absorb-whole, absorb-rest}
@@ -15,20 +15,14 @@ absorb-whole-requires c κs = search needs
 mul-if1 : tie.Need-mul-if1
 mul-if1 c = search needs
 
-returns : tie.Need-returns
-returns c =
-    let a = c .before .before .before .args in
-    let p : 4 * (a .p / 4) ≡ a .p = omega arith in
-    rw p at (absorb-whole 4 (a .p / 4) (a .s .now) (bytes 4 (a .lanes)) (bytes 4 (c .before .absorb-whole .result)) (length (a .s .now) / 4) (c .if1 .taken) (c .before .absorb-whole .ensures))
-
 add-at : tie.Need-add-at
 add-at c = search needs
 
-mul-out : tie.Need-mul-out
-mul-out c = search needs
+mul-lanes : tie.Need-mul-lanes
+mul-lanes c = search needs
 
-array-read-out : tie.Need-array-read-out
-array-read-out c = search needs
+element-copy-out-lanes : tie.Need-element-copy-out-lanes
+element-copy-out-lanes c = search needs
 
 mul-load-part32 : tie.Need-mul-load-part32
 mul-load-part32 c = search needs
@@ -45,19 +39,26 @@ part-load-part32-end c = search needs
 load-part32-requires : tie.Need-load-part32-requires
 load-part32-requires c κs = search needs
 
-mul-out-2 : tie.Need-mul-out-2
-mul-out-2 c = search needs
+mul-lanes-2 : tie.Need-mul-lanes-2
+mul-lanes-2 c = search needs
 
-array-write-out : tie.Need-array-write-out
-array-write-out c = search needs
+element-write-lanes : tie.Need-element-write-lanes
+element-write-lanes c = search needs
+
+returns : tie.Need-returns
+returns c =
+    let a = c .before .before .before .before .before .before .before .args in
+    let whole = c .before .before .before .before .absorb-whole in
+    let p : 4 * (a .p / 4) ≡ a .p = omega arith in
+    let small : Small (a .s .now) = λ i. c .before .before .before .before .before .before .shared-slice-known .given i .fits in
+    (simp length-set (whole .ensures .0), rw p at (absorb-rest 4 (a .p / 4) (a .s .now) small (whole .last .0) (length (a .s .now) / 4) (c .load-part32 .result) (omega (arith, whole .ensures .0)) (bytes 4 (a .lanes .now)) (omega arith) (omega arith) (whole .ensures .1) (c .load-part32 .ensures)))
 
 returns-2 : tie.Need-returns-2
 returns-2 c =
-    let a = c .before .before .before .before .before .args in
-    let n = length (a .s .now) / 4 in
+    let a = c .before .before .before .before .args in
+    let whole = c .before .absorb-whole in
     let p : 4 * (a .p / 4) ≡ a .p = omega arith in
-    let small : Small (a .s .now) = λ i. c .before .before .before .before .shared-slice-known .given i .fits in
-    rw p at (absorb-rest 4 (a .p / 4) (a .s .now) small (c .before .before .before .absorb-whole .result) n (c .load-part32 .result) (omega arith) (bytes 4 (a .lanes)) (omega arith) (omega arith) (c .before .before .before .absorb-whole .ensures) (c .load-part32 .ensures))
+    (whole .ensures .0, rw p at (absorb-whole 4 (a .p / 4) (a .s .now) (bytes 4 (a .lanes .now)) (bytes 4 (whole .last .0)) (length (a .s .now) / 4) (c .if1 .left) (whole .ensures .1)))
 
 pub absorb-spec : {M : Type 1} → statement M
 absorb-spec =
@@ -65,15 +66,15 @@ absorb-spec =
     (tie.spec
     absorb-whole-requires
     mul-if1
-    returns
     add-at
-    mul-out
-    array-read-out
+    mul-lanes
+    element-copy-out-lanes
     mul-load-part32
     sub-load-part32
     part-load-part32-start
     part-load-part32-end
     load-part32-requires
-    mul-out-2
-    array-write-out
+    mul-lanes-2
+    element-write-lanes
+    returns
     returns-2)

@@ -1,0 +1,64 @@
+-- The loop takes each file, and no call changes the length of what it was lent.
+use mathlib.Core.Path.{_≡_}
+use Prim.Native.Nat.{_≤_, _-_}
+use lib.ListN.{length}
+use borrow.Author.Needs.{needs}
+use Rattle.sessions.proofs.all.Statement.{statement}
+use Rattle.sessions.proofs.all.Tie as tie
+
+abbrev Inv-loop : tie.InvT-loop
+Inv-loop file₀ text₀ meta₀ out₀ tag₀ which₀ file text meta out tag which = (which ≤ 4) × (length file ≡ length file₀) × (length text ≡ length text₀) × (length meta ≡ length meta₀) × (length out ≡ length out₀) × (length tag ≡ length tag₀)
+
+abbrev μ-loop : tie.MeasureT-loop
+μ-loop file₀ text₀ meta₀ out₀ tag₀ which₀ file text meta out tag which = 4 - which
+
+loop-holds : tie.Need-loop-holds Inv-loop μ-loop
+loop-holds c = search needs
+
+report-requires : tie.Need-report-requires Inv-loop μ-loop
+report-requires c κs = search needs
+
+add-which : tie.Need-add-which Inv-loop μ-loop
+add-which c = search needs
+
+loop-less : tie.Need-loop-less Inv-loop μ-loop
+loop-less c = search needs
+
+loop-again : tie.Need-loop-again Inv-loop μ-loop
+loop-again c = search needs
+
+same-length : tie.Need-same-length Inv-loop μ-loop
+same-length c = search needs
+
+same-length-2 : tie.Need-same-length-2 Inv-loop μ-loop
+same-length-2 c = search needs
+
+same-length-3 : tie.Need-same-length-3 Inv-loop μ-loop
+same-length-3 c = search needs
+
+same-length-4 : tie.Need-same-length-4 Inv-loop μ-loop
+same-length-4 c = search needs
+
+same-length-5 : tie.Need-same-length-5 Inv-loop μ-loop
+same-length-5 c = search needs
+
+returns : tie.Need-returns Inv-loop μ-loop
+returns c = search needs
+
+pub all-spec : {M : Type 1} → statement M
+all-spec =
+    tie.close
+    (tie.spec
+    Inv-loop
+    μ-loop
+    loop-holds
+    report-requires
+    add-which
+    loop-less
+    loop-again
+    same-length
+    same-length-2
+    same-length-3
+    same-length-4
+    same-length-5
+    returns)

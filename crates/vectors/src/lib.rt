@@ -1,0 +1,5 @@
+// The layout of vectors (docs/VECTORS.md): reading the words of a line, comparing with them, and the tally of what agreed.
+// Serves the programs; no public call.
+pub mod compare;
+pub mod read;
+pub mod tally;

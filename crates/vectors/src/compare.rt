@@ -1,7 +1,7 @@
 // Holding what a call answered and left against the words of a line. A '-' expects nothing.
 ghost use Prim.Native.Nat.{_<_};
 use crate::read::after;
-use crate::read::byte;
+use crate::read::is_dash;
 use crate::read::number;
 use crate::read::word;
 use table::Answer;
@@ -36,20 +36,42 @@ fn digest(s: &[u8]) -> usize {
     d
 }
 
-// Whether the digits are those of the first bytes of `got`.
+// The hexadecimal digit of a number below 16.
+fn digit(n: u8) -> u8
+    requires { ⌜ n < 16 ⌝ }
+{
+    if n < 10 { n + b'0' } else { n + 87 }
+}
+
+fn are_digits(b: u8, high: u8, low: u8) -> bool {
+    (high == digit(b / 16)) & (low == digit(b % 16))
+}
+
+// Whether `hex` is the first bytes of `got` in hexadecimal, as many as it has digits for: one at least.
 fn starts(got: &[u8], hex: &[u8]) -> bool {
     let n = hex.len() / 2;
+    if n == 0 {
+        return false;
+    }
     if got.len() < n {
         return false;
     }
     let mut i = 0;
     while i < n {
-        if got[i] != byte(hex, i) {
+        if !are_digits(got[i], hex[2 * i], hex[2 * i + 1]) {
             return false;
         }
         i += 1;
     }
-    true
+    hex.len() == 2 * n
+}
+
+// The same, or nothing told.
+fn front(got: &[u8], hex: &[u8]) -> bool {
+    if is_dash(hex) {
+        return true;
+    }
+    starts(got, hex)
 }
 
 // The words LENGTH DIGEST HEX: how many bytes, the digest of them all, and the first of them.
@@ -60,7 +82,7 @@ pub fn bytes(line: &[u8], seen: Seen, got: &[u8]) -> Seen {
     let from = w.from;
     let to = w.to;
     Seen {
-        same: all.same & starts(got, &line[from..to]),
+        same: all.same & front(got, &line[from..to]),
         next: after(w),
     }
 }

@@ -41,16 +41,27 @@ pub fn after(w: Span) -> usize {
     wrapping_add_usize(w.to, 1)
 }
 
-// One digit more; a number of more than 15 digits stays as it is.
+// What stands for a word that is no number: more than any number that is compared.
+const NO_NUMBER: usize = 1000000000000000;
+
+// One digit more; a number of more than 14 digits, or with anything else in it, is none.
 fn tenfold(n: usize, digit: u8) -> usize {
-    if n < 100000000000000 {
-        n * 10 + (digit % 16) as usize
-    } else {
-        n
+    if digit < b'0' {
+        return NO_NUMBER;
     }
+    if b'9' < digit {
+        return NO_NUMBER;
+    }
+    if n < 100000000000000 {
+        return n * 10 + (digit - b'0') as usize;
+    }
+    NO_NUMBER
 }
 
 fn decimal(digits: &[u8]) -> usize {
+    if digits.len() == 0 {
+        return NO_NUMBER;
+    }
     let mut n = 0;
     let mut i = 0;
     while i < digits.len() {
@@ -79,7 +90,7 @@ pub fn number(line: &[u8], at: usize) -> Value {
     }
 }
 
-fn is_dash(s: &[u8]) -> bool {
+pub fn is_dash(s: &[u8]) -> bool {
     if s.len() != 1 {
         return false;
     }
@@ -106,7 +117,7 @@ fn digit(c: u8) -> u8
 }
 
 // Byte i of a run of hexadecimal digits.
-pub fn byte(hex: &[u8], i: usize) -> u8
+fn byte(hex: &[u8], i: usize) -> u8
     requires { ⌜ 2 * i + 1 < length (now hex) ⌝ }
 {
     16 * digit(hex[2 * i]) + digit(hex[2 * i + 1])

@@ -1,5 +1,5 @@
 /* Times ours against the baseline in one run: the permutation at both widths, then Lake and River, wrap and unwrap, beside
-   OpenSSL's SHAKE128 where that is installed. Each time is the best of several tries, taken in turn. */
+   OpenSSL's SHAKE128 where that is installed. Times are processor time, the best of several tries taken in turn. */
 #include <dlfcn.h>
 #include <stdio.h>
 #include <stdlib.h>

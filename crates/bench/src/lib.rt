@@ -1,4 +1,4 @@
-// The permutation called over and over from C, to be timed. Serves bench/run; no public call.
+// The permutation, and the calls of Lake and River, over and over from C, to be timed. Serves bench/run; no public call.
 ghost use mathlib.Core.Path.{_≡_};
 ghost use lib.ListN.{getD, replicate};
 ghost use Rattle.keccak.specs.Permutes.{permuted};

@@ -15,7 +15,7 @@ pub fn zero() -> [u32; 25]
 }
 
 // The first n lanes' worth of s xored in from lane q on. Where bytes go in, the lanes are changed in place: a copy for each run
-// of bytes would cost a quarter of the speed.
+// of bytes would cost about a tenth of the speed.
 fn absorb_whole(lanes: &mut [u32; 25], q: usize, n: usize, s: &[u8])
     requires { ⌜ (length (now lanes) ≡ 25) × (q + n ≤ 25) × (4 * n ≤ length (now s)) ⌝ }
     ensures { λ r. ⌜ (length (now (lanes .exit)) ≡ 25) × (bytes 4 (now (lanes .exit)) ≡ xors (bytes 4 (now (lanes .entry))) (placed (4 * q) (take (4 * n) (now (s .entry))))) ⌝ }

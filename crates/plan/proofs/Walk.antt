@@ -18,7 +18,7 @@ use Rattle.motorist.specs.Engine.{Ride, Blocks, States, group, injectStart, tex
 use Rattle.motorist.proofs.Plans.{Fit, deal-fits, inject-le, behind}
 use Rattle.motorist.proofs.OnePiston.{group-last, group-more}
 use Rattle.motorist.proofs.Xors.{length-xors}
-use Rattle.plan.specs.Cut.{fromBy, cutBy, Fits, stepped}
+use Rattle.plan.specs.Cut.{fromBy, cutBy, Fits, stepped, eomAt}
 use Rattle.plan.specs.declared.Cut.{Cut}
 
 pub from-some : (rs n : ℕ) → (n ≡ 0 → ⊥) → rs ≡ fromBy rs n
@@ -30,20 +30,23 @@ from-le rs zero = omega arith
 from-le rs (suc n) = omega arith
 
 -- ---- the test of the loop
-pub goes-on : (x t y m : ℕ) → (ltb x t || ltb y m) ≡ true → (x < t) ⊎ (y < m)
+never : {A : Type 0} → true ≡ false → A
+never h = absurd (let z : _≡_ {A = ℕ} 0 1 = cc h in omega arith)
+
+goes-on : (x t y m : ℕ) → (ltb x t || ltb y m) ≡ true → (x < t) ⊎ (y < m)
 goes-on x t y m h = go (ltb x t) (ltb y m) refl refl h
   where
     go : (p q : Bool) → ltb x t ≡ p → ltb y m ≡ q → (p || q) ≡ true → (x < t) ⊎ (y < m)
     go true q hp hq e = inl (ltb-true x t hp)
     go false true hp hq e = inr (ltb-true y m hq)
-    go false false hp hq e = absurd (let z : _≡_ {A = ℕ} 0 1 = cc e in omega arith)
+    go false false hp hq e = never (sym e)
 
-pub stops : (x t y m : ℕ) → (ltb x t || ltb y m) ≡ false → (t ≤ x) × (m ≤ y)
+stops : (x t y m : ℕ) → (ltb x t || ltb y m) ≡ false → (t ≤ x) × (m ≤ y)
 stops x t y m h = go (ltb x t) (ltb y m) refl refl h
   where
     go : (p q : Bool) → ltb x t ≡ p → ltb y m ≡ q → (p || q) ≡ false → (t ≤ x) × (m ≤ y)
-    go true q hp hq e = absurd (let z : _≡_ {A = ℕ} 0 1 = cc e in omega arith)
-    go false true hp hq e = absurd (let z : _≡_ {A = ℕ} 0 1 = cc e in omega arith)
+    go true q hp hq e = never e
+    go false true hp hq e = never e
     go false false hp hq e = (ltb-false x t hp, ltb-false y m hq)
 
 -- ---- a cut has room in a block
@@ -127,122 +130,178 @@ module _ (b c lane : ℕ) (ok : Sound (solo b lane c)) (w : ℕ) where
         pub output : take (k .text) d ++ left s (k .at) (k .text) (k .meta) .output ≡ whole .output
         pub count : n + length (left s (k .at) (k .text) (k .meta) .blocks) ≡ length (whole .blocks)
 
+      -- all n blocks are done, the state is s and the output holds d
+      pub record Done (s d : Bytes) (n : ℕ) : Type 0 where
+        pub few : n ≤ length t + length m + 1
+        pub long : length d ≡ length d₀
+        pub states : s ∷ [] ≡ whole .states
+        pub output : d ≡ whole .output ++ drop (length t) d₀
+        pub count : n ≡ length (whole .blocks)
+
+      -- the walk is under way, or at its end
+      pub record Stage (more : Bool) (s d : Bytes) (n : ℕ) (k : Cut) : Type 0 where
+        pub going : more ≡ true → Walked s d n k
+        pub done : more ≡ false → Done s d n
+
       module _ (lz : 0 % w ≡ 0) (lr : textRate one % w ≡ 0) (out : length t ≤ length d₀) where
-        pub walked-none : at₀ < textRate one → at₀ % w ≡ 0 → Walked s₀ d₀ 0 (next at₀ 0 (length t) 0 (length m))
-        walked-none ha la =
+        pub stage-none : at₀ < textRate one → at₀ % w ≡ 0 → Stage true s₀ d₀ 0 (next at₀ 0 (length t) 0 (length m))
+        stage-none ha la =
             record {
-              low = ha;
-              is = refl;
-              room = fits at₀ 0 (length t) 0 (length m) (length d₀) ha (omega arith) (omega arith) out la lz lr;
-              few = omega arith;
-              long = refl;
-              tail = refl;
-              states = refl;
-              output = refl;
-              count = omega arith;
+              going = λ h. record {
+                low = ha;
+                is = refl;
+                room = fits at₀ 0 (length t) 0 (length m) (length d₀) ha (omega arith) (omega arith) out la lz lr;
+                few = omega arith;
+                long = refl;
+                tail = refl;
+                states = refl;
+                output = refl;
+                count = omega arith;
+              };
+              done = λ h. never h;
             }
 
-      -- what the next block takes, by the instance's rules
-      module _ {s d : Bytes} {n : ℕ} {k : Cut} (walked : Walked s d n k) where
-        abbrev X : ℕ
-        X = k .textend - k .text
+-- ---- one block more of a walk
+-- so many blocks may still be to do, of t bytes of text and m of metadata
+abbrev pub ahead : (t m : ℕ) → Bool → Cut → ℕ
+ahead t m true k = suc ((t + m) - (k .text + k .meta))
+ahead t m false k = 0
 
-        abbrev Y : ℕ
-        Y = k .metaend - k .meta
+module _ {b c lane : ℕ} {ok : Sound (solo b lane c)} {w : ℕ} {f : Bytes → Bytes} {decrypt : Bool}
+    {s₀ : Bytes} {at₀ : ℕ} {t m : Bytes} {e : ℕ} {d₀ s d : Bytes} {n : ℕ} {k : Cut}
+    (walked : Walked b c lane ok w f decrypt s₀ at₀ t m e d₀ s d n k) where
+  abbrev here : Instance
+  here = solo b lane c
 
-        text-is : X ≡ textFit one (k .at) (length (drop (k .text) t))
-        text-is =
-            let r = walked .room in
-            let q : k .textend ≡ k .text + min (textRate one - k .at) (length t - k .text) = ap (λ (z : Cut). z .textend) (walked .is) in
-            rw length-drop (omega (arith, q))
+  abbrev after : Cut
+  after = next b c lane ok w 0 (k .textend) (length t) (k .metaend) (length m)
 
-        from-is : k .from ≡ injectStart one (length (drop (k .text) t))
-        from-is = rw length-drop (ap (λ (z : Cut). z .from) (walked .is) ∙ start-is one (length t - k .text))
+  -- what the block takes, by the instance's rules
+  abbrev X : ℕ
+  X = k .textend - k .text
 
-        meta-is : Y ≡ metaFit one (k .from) (length (drop (k .meta) m))
-        meta-is =
-            let q : k .metaend ≡ k .meta + min (fullRate one - fromBy (textRate one) (length t - k .text)) (length m - k .meta) = ap (λ (z : Cut). z .metaend) (walked .is) in
-            let g : k .from ≡ fromBy (textRate one) (length t - k .text) = ap (λ (z : Cut). z .from) (walked .is) in
-            rw (length-drop, g) (omega (arith, q))
+  abbrev Y : ℕ
+  Y = k .metaend - k .meta
 
-        end : (a z : ℕ) → a ≤ z → a + (z - a) ≡ z
-        end a z h = omega arith
+  text-is : X ≡ textFit here (k .at) (length (drop (k .text) t))
+  text-is =
+      let r = walked .room in
+      let q : k .textend ≡ k .text + min (textRate here - k .at) (length t - k .text) = ap (λ (z : Cut). z .textend) (walked .is) in
+      rw length-drop (omega (arith, q))
 
-        -- the bytes ys came back in the place of the block's stretch of the output
-        module _ (ys : Bytes) (ey : ys ≡ mask s (k .at) (take X (drop (k .text) t))) where
-          ys-length : length ys ≡ X
-          ys-length =
-              let r = walked .room in
-              ap length ey ∙ length-xors (take X (drop (k .text) t)) (drop (k .at) s) ∙ length-take-le X (drop (k .text) t) (rw length-drop (omega (arith, r .in-text)))
+  from-is : k .from ≡ injectStart here (length (drop (k .text) t))
+  from-is = rw length-drop (ap (λ (z : Cut). z .from) (walked .is) ∙ start-is here (length t - k .text))
 
-          in-d : k .text + X ≤ length d
-          in-d = let r = walked .room in omega (arith, r .text-order, r .in-out)
+  meta-is : Y ≡ metaFit here (k .from) (length (drop (k .meta) m))
+  meta-is =
+      let q : k .metaend ≡ k .meta + min (fullRate here - fromBy (textRate here) (length t - k .text)) (length m - k .meta) = ap (λ (z : Cut). z .metaend) (walked .is) in
+      let g : k .from ≡ fromBy (textRate here) (length t - k .text) = ap (λ (z : Cut). z .from) (walked .is) in
+      rw (length-drop, g) (omega (arith, q))
 
-          abbrev pub back : Bytes
-          back = take (k .text) d ++ (ys ++ drop X (drop (k .text) d))
+  end : (a z : ℕ) → a ≤ z → a + (z - a) ≡ z
+  end a z h = omega arith
 
-          back-take : take (k .textend) back ≡ take (k .text) d ++ ys
-          back-take = rw (end (k .text) (k .textend) (walked .room .text-order)) at (take-back d (k .text) X ys in-d ys-length)
+  -- the bytes ys came back in the place of the block's stretch of the output
+  module _ (ys : Bytes) (ey : ys ≡ mask s (k .at) (take X (drop (k .text) t))) where
+    ys-length : length ys ≡ X
+    ys-length =
+        let r = walked .room in
+        ap length ey ∙ length-xors (take X (drop (k .text) t)) (drop (k .at) s) ∙ length-take-le X (drop (k .text) t) (rw length-drop (omega (arith, r .in-text)))
 
-          back-drop : drop (k .textend) back ≡ drop (k .textend) d
-          back-drop = rw (end (k .text) (k .textend) (walked .room .text-order)) at (drop-back d (k .text) X ys in-d ys-length)
+    in-d : k .text + X ≤ length d
+    in-d = let r = walked .room in omega (arith, r .text-order, r .in-out)
 
-          tail-drop : drop (k .textend) d ≡ drop (k .textend) d₀
-          tail-drop =
-              let q : k .text + X ≡ k .textend = end (k .text) (k .textend) (walked .room .text-order) in
-              rw q at (sym (drop-drop X (k .text) d) ∙ ap (drop X) (walked .tail) ∙ drop-drop X (k .text) d₀)
+    abbrev pub back : Bytes
+    back = take (k .text) d ++ (ys ++ drop X (drop (k .text) d))
 
-          drop-end : (l : Bytes) (a z : ℕ) → a ≤ z → drop (z - a) (drop a l) ≡ drop z l
-          drop-end l a z h = rw (drop-drop (z - a) a l, end a z h) refl
+    back-take : take (k .textend) back ≡ take (k .text) d ++ ys
+    back-take = rw (end (k .text) (k .textend) (walked .room .text-order)) at (take-back d (k .text) X ys in-d ys-length)
 
-          -- what the block leaves
-          more-left : (k .textend < length t) ⊎ (k .metaend < length m) → (X < length (drop (k .text) t)) ⊎ (Y < length (drop (k .meta) m))
-          more-left (inl h) = inl (rw length-drop (omega (arith, walked .room .text-order)))
-          more-left (inr h) = inr (rw length-drop (omega (arith, walked .room .meta-order)))
+    back-drop : drop (k .textend) back ≡ drop (k .textend) d
+    back-drop = rw (end (k .text) (k .textend) (walked .room .text-order)) at (drop-back d (k .text) X ys in-d ys-length)
 
-          pub grows : (k .textend < length t) ⊎ (k .metaend < length m) → 0 < X + Y
-          grows h = takes-some (k .at) (length (drop (k .text) t)) (length (drop (k .meta) m)) X (k .from) Y (walked .low) text-is from-is meta-is (more-left h)
+    tail-drop : drop (k .textend) d ≡ drop (k .textend) d₀
+    tail-drop =
+        let q : k .text + X ≡ k .textend = end (k .text) (k .textend) (walked .room .text-order) in
+        rw q at (sym (drop-drop X (k .text) d) ∙ ap (drop X) (walked .tail) ∙ drop-drop X (k .text) d₀)
 
-          -- so the walk ends
-          pub walked-less : (k .textend < length t) ⊎ (k .metaend < length m)
-              → (length t + length m) - (k .textend + k .metaend) < (length t + length m) - (k .text + k .meta)
-          walked-less h = let r = walked .room in omega (arith, grows h, r .in-text, r .in-meta, r .text-order, r .meta-order)
+    drop-end : (l : Bytes) (a z : ℕ) → a ≤ z → drop (z - a) (drop a l) ≡ drop z l
+    drop-end l a z h = rw (drop-drop (z - a) a l, end a z h) refl
 
-          module _ (lz : 0 % w ≡ 0) (lr : textRate one % w ≡ 0) (out : length t ≤ length d₀) where
-            -- one more block, and not the last
-            pub walked-more : (s′ : Bytes) → (k .textend < length t) ⊎ (k .metaend < length m)
-                → s′ ≡ stepped one f decrypt s (k .at) (take X (drop (k .text) t)) (k .from) (take Y (drop (k .meta) m)) 0
-                → Walked s′ back (n + 1) (next 0 (k .textend) (length t) (k .metaend) (length m))
-            walked-more s′ h es =
-                let r = walked .room in
-                let g = block-more s (k .at) (walked .low) (drop (k .text) t) (drop (k .meta) m) e X (k .from) Y text-is from-is meta-is (more-left h) in
-                let g′ = rw (← es, ← ey, drop-end t (k .text) (k .textend) (r .text-order), drop-end m (k .meta) (k .metaend) (r .meta-order)) at g in
-                let long : length back ≡ length d₀ = length-back d (k .text) X ys in-d ys-length ∙ walked .long in
-                record {
-                  low = omega (arith, walked .low);
-                  is = refl;
-                  room = fits 0 (k .textend) (length t) (k .metaend) (length m) (length back) (omega (arith, walked .low)) (r .in-text) (r .in-meta) (rw long out) lz lz lr;
-                  few = omega (arith, walked .few, grows h, r .text-order, r .meta-order);
-                  long = long;
-                  tail = back-drop ∙ tail-drop;
-                  states = sym (ap (λ (z : Ride). z .states) g′) ∙ walked .states;
-                  output = rw (back-take, append-assoc) (ap (λ (z : Ride). take (k .text) d ++ z .output) (sym g′) ∙ walked .output);
-                  count = omega (arith, ap (λ (z : Ride). length (z .blocks)) g′, walked .count);
-                }
+    -- what the block leaves
+    more-left : (k .textend < length t) ⊎ (k .metaend < length m) → (X < length (drop (k .text) t)) ⊎ (Y < length (drop (k .meta) m))
+    more-left (inl h) = inl (rw length-drop (omega (arith, walked .room .text-order)))
+    more-left (inr h) = inr (rw length-drop (omega (arith, walked .room .meta-order)))
 
-            -- the last
-            pub walked-last : (s′ : Bytes) → (length t ≤ k .textend) × (length m ≤ k .metaend)
-                → s′ ≡ stepped one f decrypt s (k .at) (take X (drop (k .text) t)) (k .from) (take Y (drop (k .meta) m)) e
-                → (s′ ∷ [] ≡ whole .states) × (back ≡ whole .output ++ drop (length t) d₀) × (n + 1 ≡ length (whole .blocks))
-            walked-last s′ h es =
-                let r = walked .room in
-                let all : k .textend ≡ length t = le-antisymm (r .in-text) (h .0) in
-                let g = block-last s (k .at) (walked .low) (drop (k .text) t) (drop (k .meta) m) e X (k .from) Y text-is from-is meta-is
-                (rw length-drop (omega (arith, h .0, r .text-order))) (rw length-drop (omega (arith, h .1, r .meta-order))) in
-                let g′ = rw (← es, ← ey) at g in
-                let o : take (k .text) d ++ ys ≡ whole .output = ap (λ (z : Ride). take (k .text) d ++ z .output) (sym g′) ∙ walked .output in
-                let q : back ≡ (take (k .text) d ++ ys) ++ drop (k .textend) d = rw (drop-end d (k .text) (k .textend) (r .text-order), append-assoc) refl in (
-                  sym (ap (λ (z : Ride). z .states) g′) ∙ walked .states,
-                  q ∙ rw (o, tail-drop, all) refl,
-                  omega (arith, ap (λ (z : Ride). length (z .blocks)) g′, walked .count),
-                )
+    grows : (k .textend < length t) ⊎ (k .metaend < length m) → 0 < X + Y
+    grows h = takes-some b c lane ok w (k .at) (length (drop (k .text) t)) (length (drop (k .meta) m)) X (k .from) Y (walked .low) text-is from-is meta-is (more-left h)
+
+    -- so the walk ends
+    walked-less : (k .textend < length t) ⊎ (k .metaend < length m)
+        → (length t + length m) - (k .textend + k .metaend) < (length t + length m) - (k .text + k .meta)
+    walked-less h = let r = walked .room in omega (arith, grows h, r .in-text, r .in-meta, r .text-order, r .meta-order)
+
+    module _ (lz : 0 % w ≡ 0) (lr : textRate here % w ≡ 0) (out : length t ≤ length d₀) where
+      -- one more block, and not the last
+      walked-more : (s′ : Bytes) → (k .textend < length t) ⊎ (k .metaend < length m)
+          → s′ ≡ stepped here f decrypt s (k .at) (take X (drop (k .text) t)) (k .from) (take Y (drop (k .meta) m)) 0
+          → Walked b c lane ok w f decrypt s₀ at₀ t m e d₀ s′ back (n + 1) after
+      walked-more s′ h es =
+          let r = walked .room in
+          let g = block-more b c lane ok w f decrypt s (k .at) (walked .low) (drop (k .text) t) (drop (k .meta) m) e X (k .from) Y text-is from-is meta-is (more-left h) in
+          let g′ = rw (← es, ← ey, drop-end t (k .text) (k .textend) (r .text-order), drop-end m (k .meta) (k .metaend) (r .meta-order)) at g in
+          let long : length back ≡ length d₀ = length-back d (k .text) X ys in-d ys-length ∙ walked .long in
+          record {
+            low = omega (arith, walked .low);
+            is = refl;
+            room = fits b c lane ok w 0 (k .textend) (length t) (k .metaend) (length m) (length back) (omega (arith, walked .low)) (r .in-text) (r .in-meta) (rw long out) lz lz lr;
+            few = omega (arith, walked .few, grows h, r .text-order, r .meta-order);
+            long = long;
+            tail = back-drop ∙ tail-drop;
+            states = sym (ap (λ (z : Ride). z .states) g′) ∙ walked .states;
+            output = rw (back-take, append-assoc) (ap (λ (z : Ride). take (k .text) d ++ z .output) (sym g′) ∙ walked .output);
+            count = omega (arith, ap (λ (z : Ride). length (z .blocks)) g′, walked .count);
+          }
+
+      -- the last
+      walked-last : (s′ : Bytes) → (length t ≤ k .textend) × (length m ≤ k .metaend)
+          → s′ ≡ stepped here f decrypt s (k .at) (take X (drop (k .text) t)) (k .from) (take Y (drop (k .meta) m)) e
+          → Done b c lane ok w f decrypt s₀ at₀ t m e d₀ s′ back (n + 1)
+      walked-last s′ h es =
+          let r = walked .room in
+          let all : k .textend ≡ length t = le-antisymm (r .in-text) (h .0) in
+          let g = block-last b c lane ok w f decrypt s (k .at) (walked .low) (drop (k .text) t) (drop (k .meta) m) e X (k .from) Y text-is from-is meta-is
+          (rw length-drop (omega (arith, h .0, r .text-order))) (rw length-drop (omega (arith, h .1, r .meta-order))) in
+          let g′ = rw (← es, ← ey) at g in
+          let o : take (k .text) d ++ ys ≡ group here f decrypt (s₀ ∷ []) at₀ t m (e ∷ []) .output = ap (λ (z : Ride). take (k .text) d ++ z .output) (sym g′) ∙ walked .output in
+          let q : back ≡ (take (k .text) d ++ ys) ++ drop (k .textend) d = rw (drop-end d (k .text) (k .textend) (r .text-order), append-assoc) refl in
+          record {
+            few = omega (arith, walked .few, r .text-order, r .in-text, r .meta-order, r .in-meta);
+            long = length-back d (k .text) X ys in-d ys-length ∙ walked .long;
+            states = sym (ap (λ (z : Ride). z .states) g′) ∙ walked .states;
+            output = q ∙ rw (o, tail-drop, all) refl;
+            count = omega (arith, ap (λ (z : Ride). length (z .blocks)) g′, walked .count);
+          }
+
+      -- one more block, the last or not: the walk goes on where the test of the loop says so
+      abbrev test : Bool
+      test = ltb (k .textend) (length t) || ltb (k .metaend) (length m)
+
+      pub stage-next : (s′ : Bytes) (more : Bool) → more ≡ test
+          → s′ ≡ stepped here f decrypt s (k .at) (take X (drop (k .text) t)) (k .from) (take Y (drop (k .meta) m)) (eomAt more e)
+          → Stage b c lane ok w f decrypt s₀ at₀ t m e d₀ more s′ back (n + 1) after
+      stage-next s′ true h es =
+          record {
+            going = λ g. walked-more s′ (goes-on (k .textend) (length t) (k .metaend) (length m) (sym h)) es;
+            done = λ g. never g;
+          }
+      stage-next s′ false h es =
+          record {
+            going = λ g. never (sym g);
+            done = λ g. walked-last s′ (stops (k .textend) (length t) (k .metaend) (length m) (sym h)) es;
+          }
+
+      -- and fewer blocks are ahead
+      pub fewer-ahead : (more : Bool) → more ≡ test → ahead (length t) (length m) more after < ahead (length t) (length m) true k
+      fewer-ahead true h = omega (arith, walked-less (goes-on (k .textend) (length t) (k .metaend) (length m) (sym h)))
+      fewer-ahead false h = omega arith

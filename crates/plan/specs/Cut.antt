@@ -1,7 +1,7 @@
 -- How far the next block goes, from the two rates and what is done: the text rate rs, the full rate ra; `text` of t bytes of text
 -- and `meta` of m of metadata are done. At an instance's rates these are its textFit, injectStart and metaFit.
 use mathlib.Core.Path.{_≡_}
-use mathlib.Core.Bool.{Bool}
+use mathlib.Core.Bool.{Bool, true, false}
 use Prim.Native.Nat.{ℕ, zero, suc, _+_, _-_, _%_, _≤_, _<_, min}
 use mathlib.Core.List.{[], _∷_}
 use Rattle.motorist.specs.Instance.{Instance, textRate, fullRate}
@@ -41,6 +41,11 @@ pub record Fits (i : Instance) (w t m d : ℕ) (k : Cut) : Type 0 where
 -- the state s after the block with the text t from `at` on, to be decrypted or not, the metadata m from `from` on and the EOM e
 abbrev pub stepped : Instance → (Bytes → Bytes) → Bool → Bytes → ℕ → Bytes → ℕ → Bytes → ℕ → Bytes
 stepped i f decrypt s at t from m e = absorb f s (block i at (plain decrypt s at t) from m e)
+
+-- the EOM of a block in a group that ends with e, where more blocks follow it or not
+abbrev pub eomAt : Bool → ℕ → ℕ
+eomAt true e = 0
+eomAt false e = e
 
 -- the four offset bytes of the block of a cut; each is a byte
 abbrev pub offsetsOf : Cut → ℕ → Bytes

@@ -5,7 +5,7 @@ ghost use mathlib.Core.Bool.{_||_};
 ghost use Prim.Native.Nat.{_+_, _≤_, _<_};
 ghost use lib.Dec.{ltb};
 ghost use lib.ListN.{length, getD, take, drop};
-ghost use Rattle.plan.specs.Cut.{fromBy, cutBy, Bytewise, offsetsOf};
+ghost use Rattle.plan.specs.Cut.{fromBy, cutBy, eomAt, Bytewise, offsetsOf};
 ghost use Rattle.plan.specs.Opening.{opening};
 ghost use Rattle.motorist.specs.Piston.{cryptEnd, eom};
 ghost use Rattle.motorist.specs.Motorist.{taken};
@@ -52,6 +52,13 @@ pub fn more(cut: Cut, t: usize, m: usize) -> bool
     ensures { λ r. ⌜ r ≡ (ltb (cut .textend) t || ltb (cut .metaend) m) ⌝ }
 {
     (cut.textend < t) | (cut.metaend < m)
+}
+
+// The EOM of a block in a group that ends with `eom`: 0 where a block after it is left to do.
+pub fn eom_at(more: bool, eom: u8) -> u8
+    ensures { λ r. ⌜ r ≡ eomAt more eom ⌝ }
+{
+    if more { 0 } else { eom }
 }
 
 // One past the last of n bytes of text from `at` on; 0 if there is none.

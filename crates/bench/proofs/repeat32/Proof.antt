@@ -1,26 +1,22 @@
--- The loop: what is left of the turns, on the lanes so far, is all of them on the lanes at the start.
-use mathlib.Core.Path.{_≡_, sym, ap, _∙_}
+use mathlib.Core.Path.{_≡_, ap}
+use mathlib.Core.List.{List}
+use Prim.Native.Nat.{ℕ, _-_}
 use native.Mathlib.Omega.{arith}
 use lib.ListN.{getD}
 use Rattle.keccak.specs.Permutes.{permuted}
-use Rattle.bench.specs.Repeat.{repeated}
-use Rattle.bench.proofs.Turns.{repeated-turn, repeated-none}
-use mathlib.Core.List.{List}
-use Prim.Native.Nat.{ℕ, _≤_, _-_}
-use native.Mathlib.Nat.{sub-zero}
+use Rattle.bench.proofs.Turns.{Turned, turned-none, turned-more, turned-all}
 use borrow.Author.Needs.{needs}
 use Rattle.bench.proofs.repeat32.Statement.{statement}
 use Rattle.bench.proofs.repeat32.Tie as tie
 
 abbrev Inv-loop : tie.InvT-loop
-Inv-loop times seed lanes₀ i₀ lanes i =
-    (i ≤ times) × (repeated (permuted 5 22) (times - i) lanes ≡ repeated (permuted 5 22) times lanes₀)
+Inv-loop times seed lanes₀ i₀ lanes i = Turned (permuted 5 22) times lanes₀ i lanes
 
 abbrev μ-loop : tie.MeasureT-loop
 μ-loop times seed lanes₀ i₀ lanes i = times - i
 
 loop-holds : tie.Need-loop-holds Inv-loop μ-loop
-loop-holds c = (omega arith, rw sub-zero)
+loop-holds c = turned-none (permuted 5 22) _ _
 
 permute-requires : tie.Need-permute-requires Inv-loop μ-loop
 permute-requires c κs = search needs
@@ -32,15 +28,13 @@ loop-less : tie.Need-loop-less Inv-loop μ-loop
 loop-less c = search needs
 
 loop-again : tie.Need-loop-again Inv-loop μ-loop
-loop-again c =
-    let at = c .before .before .before in
-    (omega arith, repeated-turn (permuted 5 22) _ (at .loop .i) _ _ (omega arith) (c .before .permute .ensures .lanes-permuted) ∙ at .loop .inv .1)
+loop-again c = let l = c .before .before .before .loop in turned-more (permuted 5 22) _ _ (l .i) (l .inv) _ (omega arith) (c .before .permute .ensures .lanes-permuted)
 
 array-read-result : tie.Need-array-read-result Inv-loop μ-loop
 array-read-result c = search needs
 
 returns : tie.Need-returns Inv-loop μ-loop
-returns c = ap (λ (s : List ℕ). getD s 0 0) (sym (repeated-none (permuted 5 22) _ (c .before .loop .i) _ (omega arith)) ∙ c .before .loop .inv .1)
+returns c = let l = c .before .loop in ap (λ (s : List ℕ). getD s 0 0) (turned-all (permuted 5 22) _ _ (l .i) (l .inv) (omega arith))
 
 pub repeat32-spec : {M : Type 1} → statement M
 repeat32-spec =

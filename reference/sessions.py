@@ -3,10 +3,12 @@
     python3 sessions.py FOLDER           write the files
     python3 sessions.py --check FOLDER   make them again and compare; 1 if one differs
 
-Three files, in the layout of docs/VECTORS.md: sessions.txt with all sessions;
+Five files, in the layout of docs/VECTORS.md: sessions.txt with all sessions;
 sample.txt, a few with every byte in full, as vectors from elsewhere would stand;
-and wrong.txt, the same with one wrong byte. The same bytes come out each time:
-all choices follow from SEED by the small generator below.
+wrong.txt, the same with one wrong byte; late.txt, two long wraps whose last
+ciphertext byte is wrong; and unsound.txt, a start and the ways in which its line
+can leave the layout. The same bytes come out each time: all choices follow from
+SEED by the small generator below.
 """
 
 import os
@@ -29,9 +31,10 @@ HEAD = """\
 #
 """
 
-# Results of up to this many bytes stand in the file in full; of longer ones, the
-# first FRONT bytes and a digest.
-FULL, FRONT = 1024, 64
+# Where the last word of OUTPUTAFTER and of TAGAFTER stands in a wrap: before them are its
+# name, two runs of bytes, FORGET, two more and the three numbers of the answer.
+OUTPUT_HEX = 1 + 5 + 5 + 1 + 5 + 5 + 3 + 5 - 1
+TAG_HEX = OUTPUT_HEX + 5
 
 
 # ---------------------------------------------------------------------------
@@ -40,12 +43,14 @@ FULL, FRONT = 1024, 64
 
 
 class Given(NamedTuple):
-    """Bytes that go into a call, and the words that stand for them."""
+    """Bytes, and the words that stand for them."""
     words: str
     content: bytes
 
 
 def expand(length, a, b):
+    if a == 0:
+        return bytes([b]) * length
     return bytes((a * i + b + 29 * (i // 256)) % 256 for i in range(length))
 
 
@@ -76,24 +81,19 @@ def flipped(given, place, mask):
     return Given(f"{length} {a} {b} {place} {content[place]:02x}", content)
 
 
-def digest(content):
-    d = len(content)
-    for value in content:
-        d = (d * 257 + value + 1) % 4294967291
-    return d
-
-
-def seen(content):
+def seen(content, lent=None):
+    """The words of what a call leaves: as it was lent, or zeros and then the bytes after them."""
     content = bytes(content)
-    if len(content) <= FULL:
-        return f"{len(content)} - {hexed(content)}"
-    return f"{len(content)} {digest(content)} {content[:FRONT].hex()}"
+    if lent is not None and content == lent.content:
+        return lent.words
+    rest = content.lstrip(b"\0")
+    place = len(content) - len(rest) if rest else 0
+    return f"{len(content)} 0 0 {place} {hexed(rest)}"
 
 
-def record_words(instance, record, in_full):
-    content = keyak.lanes_to_bytes(record.lanes, instance.W // 8)
-    lanes = seen(content) if in_full else f"{len(content)} {digest(content)} -"
-    return f"{lanes} {record.phase} {record.text_start}"
+def record_words(instance, record):
+    lanes = keyak.lanes_to_bytes(record.lanes, instance.W // 8)
+    return f"{seen(lanes)} {record.phase} {record.text_start}"
 
 
 # ---------------------------------------------------------------------------
@@ -174,7 +174,7 @@ class Session:
         self.record, answer = table.start(self.instance, key.content, nonce.content,
                                           use, buffer, bool(forget))
         self.note(["start", key.words, nonce.words, use, forget, tag.words,
-                   *self.answer_words(answer), seen(buffer)])
+                   *self.answer_words(answer), seen(buffer, tag)])
         self.book.remember(self, "start", answer, key=key, nonce=nonce, tag=tag,
                            use=use, forget=forget)
         return answer, bytes(buffer)
@@ -186,7 +186,8 @@ class Session:
         self.record, answer = call(self.instance, self.record, text.content,
                                    metadata.content, bool(forget), lent, lent_tag)
         self.note([kind, text.words, metadata.words, forget, output.words,
-                   tag.words, *self.answer_words(answer), seen(lent), seen(lent_tag)])
+                   tag.words, *self.answer_words(answer), seen(lent, output),
+                   seen(lent_tag, tag)])
         self.book.remember(self, kind, answer, text=text, metadata=metadata,
                            output=output, tag=tag, forget=forget, phase=before.phase,
                            text_start=before.text_start)
@@ -200,14 +201,13 @@ class Session:
 
     def lines(self, number):
         yield f"{self.instance.name.lower()} {number}"
-        for i, (told, record) in enumerate(self.steps):
+        for told, record in self.steps:
             if record is None:
                 yield told
             elif self.book.outside:
-                yield f"{told} - - - - -"
+                yield f"{told} - - - - - - -"
             else:
-                last = i == len(self.steps) - 1
-                yield f"{told} {record_words(self.instance, record, last)}"
+                yield f"{told} {record_words(self.instance, record)}"
 
 
 class Book:
@@ -678,16 +678,75 @@ def sample_file():
     return SAMPLE.format(seed=SEED) + "\n".join(told(book)) + "\n"
 
 
+def spoilt(line, place):
+    """The line with the last digit of word number place changed."""
+    words = line.split(" ")
+    words[place] = words[place][:-1] + ("1" if words[place][-1] == "0" else "0")
+    return " ".join(words)
+
+
 def wrong_file(sample):
     """The sample with the last digit of the first tag that a wrap leaves changed."""
     lines = sample.split("\n")
     at = next(i for i, line in enumerate(lines) if line.startswith("wrap"))
-    words = lines[at].split(" ")
-    # wrap, two GIVEN, forget, two GIVEN, three numbers, two SEEN: the last word of these
-    tag = 1 + 5 + 5 + 1 + 5 + 5 + 3 + 3 + 3 - 1
-    words[tag] = words[tag][:-1] + ("1" if words[tag][-1] == "0" else "0")
-    lines[at] = " ".join(words)
+    lines[at] = spoilt(lines[at], TAG_HEX)
     return "\n".join(lines)
+
+
+LATE = """\
+# For each instance a wrap of 65,535 bytes, told in full: only its last ciphertext byte is wrong.
+# Made by reference/sessions.py from seed {seed}.
+#
+"""
+
+
+def late_file():
+    """Two long wraps, each with the last digit of its output changed."""
+    book, dice = Book(), Dice(SEED)
+    for instance in (keyak.LAKE, keyak.RIVER):
+        session = Scribe(book, instance, dice).begin()
+        session.message("wrap", dice.bytes(65535), dice.bytes(17), 0, dice.bytes(65535),
+                        dice.bytes(16))
+    lines = [spoilt(line, OUTPUT_HEX) if line.startswith("wrap") else line
+             for line in told(book)]
+    return LATE.format(seed=SEED) + "\n".join(lines) + "\n"
+
+
+UNSOUND = """\
+# One start, and then the same with one word that is outside the layout: all but the first line differ.
+# Made by reference/sessions.py from seed {seed}.
+#
+"""
+
+
+def unsound_words(nonce):
+    """Words outside the layout, and their places in a start.
+
+    A reader that only cut what is too large, and took a wrong digit for 0, would read
+    each of them as the right word.
+    """
+    a, b, place, shown, nonce_shown, forget, tag_length = 2, 3, 4, 5, 10, 12, 13
+    return ((a, "256"), (b, "256"), (place, "17"), (place, "x"), (place, "-"), (shown, ""),
+            (nonce_shown, nonce + "0"), (nonce_shown, nonce + "00"),
+            (nonce_shown, "g" + nonce[1:]), (nonce_shown, "A" + nonce[1:]),
+            (forget, "2"), (forget, "-"), (tag_length, "33"), (tag_length, "3x"))
+
+
+def unsound_file():
+    """A start with nothing asked of its tag buffer, right once and then with each wrong word."""
+    book = Book()
+    session = Session(book, keyak.LAKE)
+    nonce = bytes(range(16))
+    session.start(pattern(16, 255, 255), whole(nonce), NO_TAG, 1, pattern(32, 3, 5))
+    opened, right, _ = told(book)
+    lines = [opened, right]
+    for place, word in unsound_words(nonce.hex()):
+        words = right.split(" ")
+        words[place] = word
+        lines.append(" ".join(words))
+    lines.append(right + " 0")
+    lines.append(f"end 1 {len(lines) - 1}")
+    return UNSOUND.format(seed=SEED) + "\n".join(lines) + "\n"
 
 
 def files():
@@ -695,6 +754,8 @@ def files():
     yield "sessions.txt", whole_file()
     yield "sample.txt", sample
     yield "wrong.txt", wrong_file(sample)
+    yield "late.txt", late_file()
+    yield "unsound.txt", unsound_file()
 
 
 def first_difference(a, b):

@@ -775,10 +775,10 @@ class Table(unittest.TestCase):
 
 
 class Line:
-    """The words of one line, taken one after the other."""
+    """The words of one line, taken one after the other; untold: a result may be a dash."""
 
-    def __init__(self, text):
-        self.words = text.split(" ")
+    def __init__(self, text, untold=False):
+        self.words, self.untold = text.split(" "), untold
 
     def take(self):
         return self.words.pop(0)
@@ -792,7 +792,8 @@ class Line:
 
     def given(self):
         length, a, b, place = (self.number() for _ in range(4))
-        content = bytearray((a * i + b + 29 * (i // 256)) % 256 for i in range(length))
+        row = 29 if a else 0
+        content = bytearray((a * i + b + row * (i // 256)) % 256 for i in range(length))
         shown = self.hex()
         content[place:place + len(shown)] = shown
         if len(content) != length:
@@ -801,23 +802,22 @@ class Line:
 
     def counts(self, number):
         """Whether a number is this one, or left untold."""
-        word = self.take()
-        return word == "-" or int(word) == number
+        if self.untold and self.words[0] == "-":
+            return self.take() == "-"
+        return self.number() == number
 
     def agrees(self, content):
-        """Whether a SEEN is these bytes, as far as it tells them."""
-        d = len(content)
-        for value in content:
-            d = (d * 257 + value + 1) % 4294967291
-        length, all_of_them, shown = self.counts(len(content)), self.counts(d), self.hex()
-        return length and all_of_them and bytes(content[:len(shown)]) == shown
+        """Whether five words are these bytes, all of them, or left untold."""
+        if self.untold and self.words[0] == "-":
+            return [self.take() for _ in range(5)] == ["-"] * 5
+        return self.given() == bytes(content)
 
 
 class Replay:
     """Makes each call of the file and compares all it says."""
 
-    def __init__(self, case):
-        self.case, self.record, self.instance = case, None, None
+    def __init__(self, case, untold=False):
+        self.case, self.record, self.instance, self.untold = case, None, None, untold
 
     def step(self, line):
         kind = line.take()
@@ -870,7 +870,7 @@ class Replay:
         lines = iter(row for row in text.split("\n")[:-1] if not row.startswith("#"))
         sessions_seen = calls = 0
         for row in lines:
-            line = Line(row)
+            line = Line(row, self.untold)
             kind = line.words[0]
             if kind == "end":
                 line.take()
@@ -910,14 +910,29 @@ class DataFile(unittest.TestCase):
 
     def test_sample_and_wrong_byte(self):
         sample = sessions.sample_file()
-        self.assertEqual(Replay(self).whole_file(sample), 4)
+        self.assertEqual(Replay(self, untold=True).whole_file(sample), 4)
         wrong = sessions.wrong_file(sample)
         self.assertEqual(sum(a != b for a, b in zip(sample, wrong)), 1)
         with self.assertRaises(AssertionError):
-            Replay(self).whole_file(wrong)
+            Replay(self, untold=True).whole_file(wrong)
+
+    def test_late_byte(self):
+        late = sessions.late_file()
+        with mock.patch.object(sessions, "spoilt", side_effect=lambda line, place: line):
+            right = sessions.late_file()
+        self.assertEqual(Replay(self).whole_file(right), 2)
+        self.assertEqual(sum(a != b for a, b in zip(right, late)), 2)
+        with self.assertRaises(AssertionError):
+            Replay(self).whole_file(late)
+
+    def test_unsound_lines(self):
+        head, right, *unsound, end = sessions.unsound_file().split("\n")[3:-1]
+        self.assertEqual(end, f"end 1 {1 + len(unsound)}")
+        self.assertEqual(Replay(self).whole_file(f"{head}\n{right}\nend 1 1\n"), 1)
+        self.assertEqual(len({right, *unsound}), 1 + len(unsound))
 
     def test_size_and_letters(self):
-        self.assertLess(len(self.text), 600000)
+        self.assertLess(len(self.text), 2000000)
         self.assertTrue(self.text.isascii())
         self.assertEqual(self.text, self.text.rstrip("\n") + "\n")
         self.assertNotIn("  ", "".join(row for row in self.text.split("\n")
@@ -945,10 +960,17 @@ class DataFile(unittest.TestCase):
         self.assertIn("('River', 'wrap', 0, 'text', 65535)", str(caught.exception))
         self.assertNotIn("1000", str(caught.exception))
 
-    def test_digest_example(self):
-        self.assertEqual(sessions.digest(b""), 0)
-        self.assertEqual(sessions.digest(b"\x05"), 1 * 257 + 5 + 1)
-        self.assertEqual(sessions.digest(b"\x05\xff"), (2 * 257 + 6) * 257 + 256)
+    def test_words_of_what_is_left(self):
+        lent = sessions.pattern(300, 7, 9)
+        self.assertEqual(sessions.seen(lent.content, lent), "300 7 9 0 -")
+        self.assertEqual(sessions.seen(bytes(200)), "200 0 0 0 -")
+        self.assertEqual(sessions.seen(b""), "0 0 0 0 -")
+        self.assertEqual(sessions.seen(b"\x05\x00\xff", lent), "3 0 0 0 0500ff")
+        cleared = bytes(290) + lent.content[290:]
+        told = sessions.seen(cleared, lent)
+        self.assertEqual(told, "300 0 0 290 " + lent.content[290:].hex())
+        self.assertTrue(Line(told).agrees(cleared))
+        self.assertFalse(Line(told).agrees(lent.content))
 
 
 if __name__ == "__main__":

@@ -10,11 +10,12 @@ use hand::Hand;
 use hand::unstarted;
 use std::num::wrapping_add_usize;
 use steps::Step;
-use vectors::compare::Seen;
-use vectors::compare::count;
-use vectors::read::after;
+use vectors::compare::told;
+use vectors::read::LARGEST;
+use vectors::read::begun;
+use vectors::read::ends;
+use vectors::read::number;
 use vectors::read::until;
-use vectors::read::word;
 use vectors::tally;
 use vectors::tally::Tally;
 use vectors::tally::add;
@@ -26,50 +27,49 @@ struct Progress {
     tally: Tally,
 }
 
-fn same_hand(r: Progress, tally: Tally) -> Progress {
-    let hand = r.hand;
+// A line that is no call: it counts only where it differs.
+fn noted(hand: Hand, t: Tally, same: bool) -> Progress {
+    if same {
+        return Progress { hand, tally: t };
+    }
+    let tally = add(t, tally::NO_CALL, false);
     Progress { hand, tally }
 }
 
-// A line that opens a session: the record in hand is the unstarted one.
-fn opened(r: Progress, river: bool) -> Progress {
-    let t = r.tally;
-    let hand = unstarted(river);
-    let tally = next_line(t, true);
-    Progress { hand, tally }
+// lake NUMBER, or river NUMBER: opens a session, with the unstarted record in hand.
+fn opened(line: &[u8], t: Tally, river: bool) -> Progress {
+    let n = number(line, begun(line), LARGEST);
+    noted(unstarted(river), next_line(t, true), ends(line, n.seen))
+}
+
+// hold ..: the record in hand was replaced.
+fn held(t: Tally, s: Step) -> Progress {
+    let hand = s.hand;
+    noted(hand, next_line(t, false), s.same)
 }
 
 // A call that was made and compared; `kind` is its place among those of its instance.
-fn called(r: Progress, kind: usize, s: Step) -> Progress {
+fn called(t: Tally, kind: usize, s: Step) -> Progress {
     let hand = s.hand;
-    let t = next_line(r.tally, false);
+    let more = next_line(t, false);
     if hand.river {
-        let tally = add(t, wrapping_add_usize(kind, 4), s.same);
+        let tally = add(more, wrapping_add_usize(kind, 4), s.same);
         return Progress { hand, tally };
     }
-    let tally = add(t, kind, s.same);
+    let tally = add(more, kind, s.same);
     Progress { hand, tally }
 }
 
-// end SESSIONS CALLS: the totals must be those counted here.
-fn ended(line: &[u8], at: usize, r: Progress) -> Progress {
-    let t = next_line(r.tally, false);
-    let agreed = t.agreed;
-    let differed = t.differed;
-    let none = Seen {
-        same: true,
-        next: at,
-    };
-    let sessions = count(line, none, t.sessions);
-    let calls = count(
-        line,
-        sessions,
-        wrapping_add_usize(tally::sum(agreed), tally::sum(differed)),
-    );
-    if calls.same {
-        return same_hand(r, tally::ended(t));
+// end SESSIONS CALLS: where the totals are those counted here, the file has its end.
+fn ended(line: &[u8], hand: Hand, t: Tally) -> Progress {
+    let sessions = told(line, begun(line), t.sessions);
+    let calls = told(line, sessions, tally::calls(t));
+    let more = next_line(t, false);
+    if ends(line, calls) {
+        let tally = tally::ended(more);
+        return Progress { hand, tally };
     }
-    same_hand(r, add(t, 8, false))
+    Progress { hand, tally: more }
 }
 
 // One line, by its first letter.
@@ -80,35 +80,32 @@ fn turn(
     meta: &mut [u8],
     out: &mut [u8],
     tag: &mut [u8],
+    spare: &mut [u8],
 ) -> Progress {
-    let t = next_line(r.tally, false);
     let h = r.hand;
+    let t = r.tally;
     if line.len() == 0 {
-        return same_hand(r, t);
+        return noted(h, next_line(t, false), true);
     }
-    let at = after(word(line, 0));
     match line[0] {
-        b'#' => same_hand(r, t),
-        b'l' => opened(r, false),
-        b'r' => opened(r, true),
-        b'h' => Progress {
-            hand: steps::hold(line, h, at),
-            tally: t,
-        },
-        b's' => called(r, 0, steps::start(line, h, at, text, meta, tag)),
+        b'#' => noted(h, next_line(t, false), true),
+        b'l' => opened(line, t, false),
+        b'r' => opened(line, t, true),
+        b'h' => held(t, steps::hold(line, h)),
+        b's' => called(t, 0, steps::start(line, h, text, meta, tag, spare)),
         b'w' => called(
-            r,
+            t,
             1,
-            steps::message(line, h, at, false, text, meta, out, tag),
+            steps::message(line, h, false, text, meta, out, tag, spare),
         ),
         b'u' => called(
-            r,
+            t,
             2,
-            steps::message(line, h, at, true, text, meta, out, tag),
+            steps::message(line, h, true, text, meta, out, tag, spare),
         ),
-        b'p' => called(r, 3, steps::permute(line, h, at)),
-        b'e' => ended(line, at, r),
-        _ => same_hand(r, add(t, 8, false)),
+        b'p' => called(t, 3, steps::permute(line, h, spare)),
+        b'e' => ended(line, h, t),
+        _ => noted(h, next_line(t, false), false),
     }
 }
 
@@ -120,14 +117,21 @@ fn past(at: usize, end: usize, most: usize) -> usize
     if end < most { end + 1 } else { end }
 }
 
-fn lines(file: &[u8], text: &mut [u8], meta: &mut [u8], out: &mut [u8], tag: &mut [u8]) -> Tally {
+fn lines(
+    file: &[u8],
+    text: &mut [u8],
+    meta: &mut [u8],
+    out: &mut [u8],
+    tag: &mut [u8],
+    spare: &mut [u8],
+) -> Tally {
     let hand = unstarted(false);
     let tally = tally::none();
     let mut r = Progress { hand, tally };
     let mut at = 0;
     while at < file.len() {
         let end = until(file, at, b'\n');
-        let one = turn(&file[at..end], r, text, meta, out, tag);
+        let one = turn(&file[at..end], r, text, meta, out, tag, spare);
         r = one;
         at = past(at, end, file.len());
     }
@@ -135,7 +139,7 @@ fn lines(file: &[u8], text: &mut [u8], meta: &mut [u8], out: &mut [u8], tag: &mu
     if t.ended {
         return t;
     }
-    add(t, 8, false)
+    add(t, tally::NO_CALL, false)
 }
 
 // The files, in the order in which they are run and told.
@@ -143,12 +147,18 @@ const SAMPLE: usize = 0;
 
 const WRONG: usize = 1;
 
-const TEAM: usize = 2;
+const LATE: usize = 2;
+
+const UNSOUND: usize = 3;
+
+const TEAM: usize = 4;
 
 fn opened_file(which: usize) -> i32 {
     match which {
         SAMPLE => os::open_read(b"sample.txt"),
         WRONG => os::open_read(b"wrong.txt"),
+        LATE => os::open_read(b"late.txt"),
+        UNSOUND => os::open_read(b"unsound.txt"),
         TEAM => os::open_read(b"team.txt"),
         _ => os::open_read(b"sessions.txt"),
     }
@@ -186,6 +196,8 @@ fn tell(which: usize, size: usize, t: Tally) {
     match which {
         SAMPLE => tally::total(b"vectors of the second program: ", t),
         WRONG => tally::total(b"the same with one wrong byte: ", t),
+        LATE => tally::total(b"the last of 65,535 bytes wrong: ", t),
+        UNSOUND => tally::total(b"lines outside the layout: ", t),
         TEAM => tell_team(size, t),
         _ => tell_sessions(t),
     }
@@ -198,25 +210,33 @@ fn report(
     meta: &mut [u8],
     out: &mut [u8],
     tag: &mut [u8],
+    spare: &mut [u8],
 ) {
     let n = load(which, file);
-    let t = lines(&file[0..n], text, meta, out, tag);
+    let t = lines(&file[0..n], text, meta, out, tag, spare);
     tell(which, n, t);
 }
 
-fn all(file: &mut [u8], text: &mut [u8], meta: &mut [u8], out: &mut [u8], tag: &mut [u8]) {
+fn all(
+    file: &mut [u8],
+    text: &mut [u8],
+    meta: &mut [u8],
+    out: &mut [u8],
+    tag: &mut [u8],
+    spare: &mut [u8],
+) {
     let mut which = SAMPLE;
-    while which < 4 {
-        report(which, file, text, meta, out, tag);
+    while which < 6 {
+        report(which, file, text, meta, out, tag, spare);
         which += 1;
     }
 }
 
 // Room for a file, and for an output that is a little longer than the longest text.
-fn file_room() -> [u8; 600000]
-    ensures { λ r. ⌜ 600000 ≡ length r ⌝ }
+fn file_room() -> [u8; 2000000]
+    ensures { λ r. ⌜ 2000000 ≡ length r ⌝ }
 {
-    [0; 600000]
+    [0; 2000000]
 }
 
 fn out_room() -> [u8; 65600]
@@ -231,5 +251,13 @@ fn main() {
     let mut meta = io::large_buffer();
     let mut out = out_room();
     let mut tag = [0u8; 32];
-    all(&mut file, &mut text, &mut meta, &mut out, &mut tag);
+    let mut spare = out_room();
+    all(
+        &mut file,
+        &mut text,
+        &mut meta,
+        &mut out,
+        &mut tag,
+        &mut spare,
+    );
 }

@@ -1,6 +1,7 @@
-// Reading a line of the vector layout (docs/VECTORS.md): words with a space between two, numbers, and bytes in hexadecimal.
+// Reading a line of the vector layout (docs/VECTORS.md): words with a space between two, numbers, and bytes in five words.
+// Each reader says too whether its words were sound, so that a line outside the layout is seen.
 ghost use mathlib.Core.Path.{_≡_};
-ghost use Prim.Native.Nat.{_+_, _*_, _<_, _≤_, min};
+ghost use Prim.Native.Nat.{_≤_, min};
 ghost use lib.ListN.{length};
 use slices::least;
 use std::num::wrapping_add_u8;
@@ -22,13 +23,13 @@ pub fn until(s: &[u8], from: usize, stop: u8) -> usize
 }
 
 // Where a word begins and ends.
-pub struct Span {
-    pub from: usize,
-    pub to: usize,
+struct Span {
+    from: usize,
+    to: usize,
 }
 
 // The word at `at`; past the line's end it is empty.
-pub fn word(line: &[u8], at: usize) -> Span
+fn word(line: &[u8], at: usize) -> Span
     ensures { λ r. ⌜ (r .from ≤ r .to) × (r .to ≤ length (now (line .entry))) ⌝ }
 {
     let from = least(at, line.len());
@@ -37,12 +38,51 @@ pub fn word(line: &[u8], at: usize) -> Span
 }
 
 // Where the next word begins.
-pub fn after(w: Span) -> usize {
+fn after(w: Span) -> usize {
     wrapping_add_usize(w.to, 1)
 }
 
-// What stands for a word that is no number: more than any number that is compared.
-const NO_NUMBER: usize = 1000000000000000;
+// Whether all was sound and as expected so far, and where the next word begins.
+pub struct Seen {
+    pub same: bool,
+    pub next: usize,
+}
+
+// The line past its first word.
+pub fn begun(line: &[u8]) -> Seen {
+    Seen {
+        same: true,
+        next: after(word(line, 0)),
+    }
+}
+
+// Whether all was well, and the line ends with the words that were read.
+pub fn ends(line: &[u8], seen: Seen) -> bool {
+    seen.same & (line.len() < seen.next)
+}
+
+fn is_dash(s: &[u8]) -> bool {
+    if s.len() != 1 {
+        return false;
+    }
+    s[0] == b'-'
+}
+
+// The word '-'.
+pub fn dash(line: &[u8], seen: Seen) -> Seen {
+    let w = word(line, seen.next);
+    let from = w.from;
+    let to = w.to;
+    Seen {
+        same: seen.same & is_dash(&line[from..to]),
+        next: after(w),
+    }
+}
+
+// The largest number of 14 digits, and what stands for a word that is no number.
+pub const LARGEST: usize = 99999999999999;
+
+const NO_NUMBER: usize = 100000000000000;
 
 // One digit more; a number of more than 14 digits, or with anything else in it, is none.
 fn tenfold(n: usize, digit: u8) -> usize {
@@ -52,7 +92,7 @@ fn tenfold(n: usize, digit: u8) -> usize {
     if b'9' < digit {
         return NO_NUMBER;
     }
-    if n < 100000000000000 {
+    if n < 10000000000000 {
         return n * 10 + (digit - b'0') as usize;
     }
     NO_NUMBER
@@ -71,70 +111,89 @@ fn decimal(digits: &[u8]) -> usize {
     n
 }
 
-// A number, whether it is told at all ('-' stands for one that is not), and where the next word begins.
+// A number that was read, and the line past it.
 pub struct Value {
     pub value: usize,
-    pub told: bool,
-    pub next: usize,
+    pub seen: Seen,
 }
 
-pub fn number(line: &[u8], at: usize) -> Value {
-    let w = word(line, at);
+// A number of at most `most`; what is more, or no number, is not sound.
+pub fn number(line: &[u8], seen: Seen, most: usize) -> Value
+    ensures { λ r. ⌜ r .value ≤ most ⌝ }
+{
+    let w = word(line, seen.next);
     let from = w.from;
     let to = w.to;
-    let digits = &line[from..to];
-    Value {
-        value: decimal(digits),
-        told: !is_dash(digits),
+    let n = decimal(&line[from..to]);
+    let past = Seen {
+        same: seen.same & (n <= LARGEST) & (n <= most),
         next: after(w),
+    };
+    Value {
+        value: least(n, most),
+        seen: past,
     }
 }
 
-pub fn is_dash(s: &[u8]) -> bool {
-    if s.len() != 1 {
-        return false;
-    }
-    s[0] == b'-'
-}
-
-// The value of a hexadecimal digit; that of any other byte is 0.
-fn digit(c: u8) -> u8
-    ensures { λ r. ⌜ r < 16 ⌝ }
-{
+// The value of a hexadecimal digit; any other byte is 16.
+fn digit(c: u8) -> u8 {
     if c < b'0' {
-        return 0;
+        return 16;
     }
     if c <= b'9' {
         return c - b'0';
     }
     if c < b'a' {
-        return 0;
+        return 16;
     }
     if c <= b'f' {
         return c - 87;
     }
-    0
+    16
 }
 
-// Byte i of a run of hexadecimal digits.
-fn byte(hex: &[u8], i: usize) -> u8
-    requires { ⌜ 2 * i + 1 < length (now hex) ⌝ }
-{
-    16 * digit(hex[2 * i]) + digit(hex[2 * i + 1])
+// A byte of two digits, and whether they are digits.
+struct Digits {
+    value: u8,
+    sound: bool,
 }
 
-// The bytes of the digits to the front of `into`, as many as there is room for.
-fn place(hex: &[u8], into: &mut [u8]) {
+fn byte(high: u8, low: u8) -> Digits {
+    let h = digit(high);
+    let l = digit(low);
+    Digits {
+        value: h % 16 * 16 + l % 16,
+        sound: (h < 16) & (l < 16),
+    }
+}
+
+// The bytes of the digits to the front of `into`. Sound are one pair of digits or more, nothing else, with room for all.
+fn place(hex: &[u8], into: &mut [u8]) -> bool {
     let n = least(hex.len() / 2, into.len());
+    let mut sound = (0 < n) & (hex.len() == 2 * n);
     let mut i = 0;
     while i < n {
-        into[i] = byte(hex, i);
+        let b = byte(hex[2 * i], hex[2 * i + 1]);
+        into[i] = b.value;
+        sound = sound & b.sound;
         i += 1;
     }
+    sound
+}
+
+// The same, or none where a '-' stands.
+fn place_told(hex: &[u8], into: &mut [u8]) -> bool {
+    if is_dash(hex) {
+        return true;
+    }
+    place(hex, into)
 }
 
 // The byte after x in the pattern, where x stands at i.
 fn next_byte(x: u8, a: u8, i: usize) -> u8 {
+    if a == 0 {
+        return x;
+    }
     let y = wrapping_add_u8(x, a);
     if i % 256 == 255 {
         return wrapping_add_u8(y, 29);
@@ -142,7 +201,7 @@ fn next_byte(x: u8, a: u8, i: usize) -> u8 {
     y
 }
 
-// Byte i is a * i + b + 29 * (i / 256), modulo 256.
+// Byte i is a * i + b + 29 * (i / 256), modulo 256; where a is 0, every byte is b.
 fn fill(into: &mut [u8], a: u8, b: u8) {
     let mut x = b;
     let mut i = 0;
@@ -153,10 +212,10 @@ fn fill(into: &mut [u8], a: u8, b: u8) {
     }
 }
 
-// Bytes that were read: how many, and where the next word begins.
+// Bytes that were read: how many, and the line past them.
 pub struct Part {
     pub length: usize,
-    pub next: usize,
+    pub seen: Seen,
 }
 
 fn low(n: usize) -> u8 {
@@ -164,22 +223,24 @@ fn low(n: usize) -> u8 {
 }
 
 // The words LENGTH A B PLACE HEX: so many bytes of the pattern, then the bytes HEX from PLACE on. They go to the front of `into`.
-pub fn given(line: &[u8], at: usize, into: &mut [u8]) -> Part
+pub fn given(line: &[u8], seen: Seen, into: &mut [u8]) -> Part
     ensures { λ r. ⌜ r .length ≤ length (now (into .entry)) ⌝ }
 {
-    let size = number(line, at);
-    let a = number(line, size.next);
-    let b = number(line, a.next);
-    let first = number(line, b.next);
-    let w = word(line, first.next);
+    let size = number(line, seen, into.len());
+    let length = size.value;
+    let a = number(line, size.seen, 255);
+    let b = number(line, a.seen, 255);
+    let first = number(line, b.seen, length);
+    let start = first.value;
+    let told = first.seen;
+    let w = word(line, told.next);
     let from = w.from;
     let to = w.to;
-    let length = least(size.value, into.len());
-    let start = least(first.value, length);
     fill(&mut into[0..length], low(a.value), low(b.value));
-    place(&line[from..to], &mut into[start..length]);
-    Part {
-        length,
+    let sound = place_told(&line[from..to], &mut into[start..length]);
+    let past = Seen {
+        same: told.same & sound,
         next: after(w),
-    }
+    };
+    Part { length, seen: past }
 }

@@ -1,8 +1,12 @@
 // What agreed and what differed, by instance and kind of call, and how it is told.
 use libc::STDOUT_FILENO;
 use std::num::wrapping_add_usize;
+use std::num::wrapping_sub_usize;
 
-// The kinds: 0 to 3 are start, wrap, unwrap and permute of Lake, 4 to 7 the same of River; 8 is a line that is no call, which only differs.
+// The kind of a line that is no call, which only differs.
+pub const NO_CALL: usize = 8;
+
+// The other kinds: 0 to 3 are start, wrap, unwrap and permute of Lake, 4 to 7 the same of River.
 // `first` is the line of the first difference, 0 if there is none.
 pub struct Tally {
     pub agreed: [usize; 9],
@@ -89,6 +93,14 @@ pub fn sum(counts: [usize; 9]) -> usize {
         i += 1;
     }
     n
+}
+
+// How many calls were compared.
+pub fn calls(t: Tally) -> usize {
+    let agreed = t.agreed;
+    let differed = t.differed;
+    let all = wrapping_add_usize(sum(agreed), sum(differed));
+    wrapping_sub_usize(all, differed[NO_CALL])
 }
 
 fn say(what: &[u8]) {

@@ -1,6 +1,6 @@
 // The main job: a year of dips, read from a plain text file, sealed month by month with Lake or River, opened again on a second
 // session and shown; then what must be refused. Arguments: lake or river, the file of dips, the key file, the nonce file.
-// The programs year, year_river and year_bad are this job on three inputs.
+// The programs year, year_river and year_bad are this job on three inputs; year_cases shows what stops it before it seals.
 ghost use Prim.Native.Nat.{_≤_};
 ghost use lib.ListN.{length};
 
@@ -33,22 +33,19 @@ fn is_read(file: i32, path: &[u8]) -> bool {
     true
 }
 
-// The file that argument i names.
-fn load(i: usize, into: &mut [u8]) -> Loaded
+fn load(path: &[u8], into: &mut [u8]) -> Loaded
     ensures { λ r. ⌜ r .length ≤ length (now (into .exit)) ⌝ }
 {
-    let mut path = io::buffer();
-    let n = os::arg(i, &mut path);
-    let file = os::open_read(&path[..n]);
+    let file = os::open_read(path);
     if file < 0 {
-        os::fail(&path[..n]);
+        os::fail(path);
         return Loaded {
             ok: false,
             length: 0,
         };
     }
     let length = io::read_full(file, into);
-    let ok = is_read(file, &path[..n]);
+    let ok = is_read(file, path);
     libc::close(file);
     Loaded { ok, length }
 }
@@ -63,39 +60,50 @@ fn usage() {
 }
 
 // The file of dips has at most 16 KiB; of key and nonce more is read than either may have, so that the start refuses them.
-fn run_with(instance: Instance) {
+fn run_with(instance: Instance, dips_path: &[u8], key_path: &[u8], nonce_path: &[u8]) {
     let mut dips = [0u8; 16384];
     let mut key = [0u8; 64];
     let mut nonce = [0u8; 2048];
-    let text = load(2, &mut dips);
-    let secret = load(3, &mut key);
-    let once = load(4, &mut nonce);
+    let text = load(dips_path, &mut dips);
+    let secret = load(key_path, &mut key);
+    let once = load(nonce_path, &mut nonce);
     let text_length = text.length;
     let key_length = secret.length;
     let nonce_length = once.length;
-    if text.ok & secret.ok & once.ok {
-        sealing::run(
-            instance,
-            &dips[0..text_length],
-            &key[0..key_length],
-            &nonce[0..nonce_length],
-        );
+    if !(text.ok & secret.ok & once.ok) {
+        return show::put(b"Nothing was sealed.\n");
     }
+    sealing::run(
+        instance,
+        &dips[0..text_length],
+        &key[0..key_length],
+        &nonce[0..nonce_length],
+    );
 }
 
+// The job by its four words: lake or river, and the names of three files.
+pub fn run_on(word: &[u8], dips_path: &[u8], key_path: &[u8], nonce_path: &[u8]) {
+    if slices::same(word, b"lake") {
+        return run_with(Instance::Lake, dips_path, key_path, nonce_path);
+    }
+    if slices::same(word, b"river") {
+        return run_with(Instance::River, dips_path, key_path, nonce_path);
+    }
+    usage();
+}
+
+// The job by the program's arguments.
 pub fn run() {
     let mut word = [0u8; 8];
-    let n = os::arg(1, &mut word);
-    let lake = slices::same(&word[..n], b"lake");
-    let river = slices::same(&word[..n], b"river");
+    let mut dips = io::buffer();
+    let mut key = io::buffer();
+    let mut nonce = io::buffer();
     if os::arg_count() != 5 {
         return usage();
     }
-    if lake {
-        return run_with(Instance::Lake);
-    }
-    if river {
-        return run_with(Instance::River);
-    }
-    usage();
+    let w = os::arg(1, &mut word);
+    let d = os::arg(2, &mut dips);
+    let k = os::arg(3, &mut key);
+    let n = os::arg(4, &mut nonce);
+    run_on(&word[..w], &dips[..d], &key[..k], &nonce[..n]);
 }

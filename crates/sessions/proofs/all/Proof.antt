@@ -7,10 +7,10 @@ use Rattle.sessions.proofs.all.Statement.{statement}
 use Rattle.sessions.proofs.all.Tie as tie
 
 abbrev Inv-loop : tie.InvT-loop
-Inv-loop file₀ text₀ meta₀ out₀ tag₀ which₀ file text meta out tag which = (which ≤ 4) × (length file ≡ length file₀) × (length text ≡ length text₀) × (length meta ≡ length meta₀) × (length out ≡ length out₀) × (length tag ≡ length tag₀)
+Inv-loop file₀ text₀ meta₀ out₀ tag₀ spare₀ which₀ file text meta out tag spare which = (which ≤ 6) × (length file ≡ length file₀) × (length text ≡ length text₀) × (length meta ≡ length meta₀) × (length out ≡ length out₀) × (length tag ≡ length tag₀) × (length spare ≡ length spare₀)
 
 abbrev μ-loop : tie.MeasureT-loop
-μ-loop file₀ text₀ meta₀ out₀ tag₀ which₀ file text meta out tag which = 4 - which
+μ-loop file₀ text₀ meta₀ out₀ tag₀ spare₀ which₀ file text meta out tag spare which = 6 - which
 
 loop-holds : tie.Need-loop-holds Inv-loop μ-loop
 loop-holds c = search needs
@@ -42,6 +42,9 @@ same-length-4 c = search needs
 same-length-5 : tie.Need-same-length-5 Inv-loop μ-loop
 same-length-5 c = search needs
 
+same-length-6 : tie.Need-same-length-6 Inv-loop μ-loop
+same-length-6 c = search needs
+
 returns : tie.Need-returns Inv-loop μ-loop
 returns c = search needs
 
@@ -61,4 +64,5 @@ all-spec =
     same-length-3
     same-length-4
     same-length-5
+    same-length-6
     returns)

@@ -7,10 +7,10 @@ use Rattle.sessions.proofs.lines.Statement.{statement}
 use Rattle.sessions.proofs.lines.Tie as tie
 
 abbrev Inv-loop : tie.InvT-loop
-Inv-loop file text₀ meta₀ out₀ tag₀ r₀ at₀ text meta out tag r at = (at ≤ length file) × (length text ≡ length text₀) × (length meta ≡ length meta₀) × (length out ≡ length out₀) × (length tag ≡ length tag₀)
+Inv-loop file text₀ meta₀ out₀ tag₀ spare₀ r₀ at₀ text meta out tag spare r at = (at ≤ length file) × (length text ≡ length text₀) × (length meta ≡ length meta₀) × (length out ≡ length out₀) × (length tag ≡ length tag₀) × (length spare ≡ length spare₀)
 
 abbrev μ-loop : tie.MeasureT-loop
-μ-loop file text₀ meta₀ out₀ tag₀ r₀ at₀ text meta out tag r at = length file - at
+μ-loop file text₀ meta₀ out₀ tag₀ spare₀ r₀ at₀ text meta out tag spare r at = length file - at
 
 unstarted-requires : tie.Need-unstarted-requires Inv-loop μ-loop
 unstarted-requires c κs = search needs
@@ -57,14 +57,14 @@ same-length-3 c = search needs
 same-length-4 : tie.Need-same-length-4 Inv-loop μ-loop
 same-length-4 c = search needs
 
+same-length-5 : tie.Need-same-length-5 Inv-loop μ-loop
+same-length-5 c = search needs
+
 returns : tie.Need-returns Inv-loop μ-loop
 returns c = search needs
 
 add-requires : tie.Need-add-requires Inv-loop μ-loop
 add-requires c κs = search needs
-
-same-length-5 : tie.Need-same-length-5 Inv-loop μ-loop
-same-length-5 c = search needs
 
 same-length-6 : tie.Need-same-length-6 Inv-loop μ-loop
 same-length-6 c = search needs
@@ -74,6 +74,12 @@ same-length-7 c = search needs
 
 same-length-8 : tie.Need-same-length-8 Inv-loop μ-loop
 same-length-8 c = search needs
+
+same-length-9 : tie.Need-same-length-9 Inv-loop μ-loop
+same-length-9 c = search needs
+
+same-length-10 : tie.Need-same-length-10 Inv-loop μ-loop
+same-length-10 c = search needs
 
 returns-2 : tie.Need-returns-2 Inv-loop μ-loop
 returns-2 c = search needs
@@ -99,10 +105,12 @@ lines-spec =
     same-length-2
     same-length-3
     same-length-4
+    same-length-5
     returns
     add-requires
-    same-length-5
     same-length-6
     same-length-7
     same-length-8
+    same-length-9
+    same-length-10
     returns-2)

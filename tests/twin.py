@@ -4,10 +4,10 @@ import pathlib
 import re
 import sys
 
-TWINS = [("lanes64", "lanes32"), ("piston64", "piston32"), ("lake", "river"), ("bench/proofs/over_lake", "bench/proofs/over_river")]
+TWINS = [("lanes64", "lanes32"), ("piston64", "piston32"), ("engine64", "engine32"), ("lake", "river"), ("bench/proofs/over_lake", "bench/proofs/over_river")]
 FILES = [("promises/proofs/Lake.antt", "promises/proofs/River.antt"), ("bench/src/over_lake.rt", "bench/src/over_river.rt"),
          ("bench/specs/OverLake.antt", "bench/specs/OverRiver.antt")]
-WORDS = [("u64", "u32"), ("64 bits", "32 bits"), ("lanes64", "lanes32"), ("keccak64", "keccak32"), ("piston64", "piston32"), ("load64", "load32"), ("store64", "store32"),
+WORDS = [("u64", "u32"), ("64 bits", "32 bits"), ("lanes64", "lanes32"), ("keccak64", "keccak32"), ("piston64", "piston32"), ("engine64", "engine32"), ("load64", "load32"), ("store64", "store32"),
          ("part64", "part32"), ("w64", "w32"), ("[1600, 12]", "[800, 12]"), ("1600 64 256", "800 32 256"), ("1600 256 64", "800 256 32"), ("lake", "river"), ("Lake", "River")]
 # 8 is a lane's width in bytes in these places, and 6 its binary logarithm in bits
 WIDTH = r"(\* |/ |% |\+ |bytes |-turn |-none |-rest |-whole |-sound |Fits river |decrypt\) |-length |-back |-lanes |lanesFrom |-lane |of )8\b"

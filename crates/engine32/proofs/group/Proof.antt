@@ -1,0 +1,95 @@
+use mathlib.Core.Path.{_≡_, refl}
+use native.Mathlib.Omega.{arith}
+use lib.ListN.{length}
+use Rattle.keccak.specs.State.{bytes}
+use Rattle.motorist.specs.Keyak.{riverF}
+use Rattle.motorist.proofs.Instances.{river-sound}
+use Rattle.plan.proofs.Walk.{Stage, ahead, stage-none, stage-next, fewer-ahead}
+use Rattle.piston32.proofs.Numbers.{text-lane}
+use borrow.Author.Needs.{needs}
+use Rattle.engine32.proofs.group.Statement.{statement}
+use Rattle.engine32.proofs.group.Tie as tie
+
+abbrev Inv-loop : tie.InvT-loop
+Inv-loop rates at text meta eom out₀ decrypt state₀ runs₀ cut₀ going₀ out state runs cut going =
+    Stage 800 256 32 river-sound 4 riverF decrypt (bytes 4 state₀) at text meta eom out₀ going (bytes 4 state) out runs cut
+
+abbrev μ-loop : tie.MeasureT-loop
+μ-loop rates at text meta eom out₀ decrypt state₀ runs₀ cut₀ going₀ out state runs cut going = ahead (length text) (length meta) going cut
+
+cut-at-requires : tie.Need-cut-at-requires Inv-loop μ-loop
+cut-at-requires c κs = let q = c .before .before .before .pre .0 in (omega (arith, q .0 .text, q .1), omega (arith, q .0 .text, q .0 .full, river-sound .textFits), omega arith, omega arith)
+
+loop-holds : tie.Need-loop-holds Inv-loop μ-loop
+loop-holds c =
+    let a = c .before .before .before .before .args in
+    let q = c .before .before .before .before .pre .0 in
+    rw (c .cut-at .ensures, q .0 .text, q .0 .full)
+    (stage-none 800 256 32 river-sound 4 riverF (a .decrypt) (bytes 4 (a .lanes)) (a .at) (a .text .now) (a .meta .now) (a .eom) (a .out .now) refl text-lane (q .3) (q .1) (q .2))
+
+more-requires : tie.Need-more-requires Inv-loop μ-loop
+more-requires c κs = search needs
+
+eom-at-requires : tie.Need-eom-at-requires Inv-loop μ-loop
+eom-at-requires c κs = search needs
+
+block-requires : tie.Need-block-requires Inv-loop μ-loop
+block-requires c κs =
+    let w = c .before .before .before .before .loop .inv .going (c .before .before .before .loop-test .taken) in
+    (c .before .before .before .before .before .before .before .before .before .pre .0 .0, w .room)
+
+add-runs : tie.Need-add-runs Inv-loop μ-loop
+add-runs c =
+    let w = c .before .before .before .before .before .before .before .loop .inv .going (c .before .before .before .before .before .before .loop-test .taken) in
+    let p = c .before .before .before .before .before .before .before .before .before .before .before .before .pre .1 in
+    omega (arith, w .few, w .room .text-order, w .room .in-text, w .room .meta-order, w .room .in-meta, p .0, p .1)
+
+cut-at-requires-2 : tie.Need-cut-at-requires-2 Inv-loop μ-loop
+cut-at-requires-2 c κs =
+    let w = c .before .before .before .before .before .before .before .loop .inv .going (c .before .before .before .before .before .before .loop-test .taken) in
+    let q = c .before .before .before .before .before .before .before .before .before .before .before .before .pre .0 in
+    (omega arith, omega (arith, q .0 .text, q .0 .full, river-sound .textFits), w .room .in-text, w .room .in-meta)
+
+loop-less : tie.Need-loop-less Inv-loop μ-loop
+loop-less c =
+    let w = c .before .before .before .before .before .before .before .before .loop .inv .going (c .before .before .before .before .before .before .before .loop-test .taken) in
+    let q = c .before .before .before .before .before .before .before .before .before .before .before .before .before .pre .0 in
+    let m = c .before .before .before .before .before .before .more in
+    rw (c .cut-at2 .ensures, q .0 .text, q .0 .full, c .before .before .before .before .before .before .before .loop-test .taken)
+    (fewer-ahead w _ refl refl text-lane (q .3) (m .result) (m .ensures))
+
+loop-again : tie.Need-loop-again Inv-loop μ-loop
+loop-again c =
+    let w = c .before .before .before .before .before .before .before .before .loop .inv .going (c .before .before .before .before .before .before .before .loop-test .taken) in
+    let q = c .before .before .before .before .before .before .before .before .before .before .before .before .before .pre .0 in
+    let m = c .before .before .before .before .before .before .more in
+    let b = c .before .before .before .block in
+    rw (c .cut-at2 .ensures, q .0 .text, q .0 .full, b .ensures .1)
+    (stage-next w _ refl refl text-lane (q .3) (bytes 4 (b .result)) (m .result) (m .ensures) (rw (c .before .before .before .before .before .eom-at .ensures) at (b .ensures .0)))
+
+same-length : tie.Need-same-length Inv-loop μ-loop
+same-length c = c .before .loop .inv .done (c .loop-test .left) .long
+
+returns : tie.Need-returns Inv-loop μ-loop
+returns c =
+    let z = c .before .loop .inv .done (c .loop-test .left) in
+    let p = c .before .before .before .before .before .before .pre .1 in
+    (z .states, (z .output, (z .count, omega (arith, z .few, p .0, p .1))))
+
+pub group-spec : {M : Type 1} → statement M
+group-spec =
+    tie.close
+    (tie.spec
+    Inv-loop
+    μ-loop
+    cut-at-requires
+    loop-holds
+    more-requires
+    eom-at-requires
+    block-requires
+    add-runs
+    cut-at-requires-2
+    loop-less
+    loop-again
+    same-length
+    returns)

@@ -1,0 +1,59 @@
+use mathlib.Core.Path.{_≡_, ap, _∙_}
+use native.Mathlib.Omega.{arith}
+use lib.ListN.{length}
+use Rattle.keccak.specs.State.{bytes}
+use Rattle.motorist.specs.Keyak.{lakeF}
+use Rattle.motorist.specs.Engine.{Ride}
+use Rattle.motorist.proofs.Instances.{lake-sound}
+use Rattle.plan.proofs.Knots.{start-plain, start-knot}
+use borrow.Author.Needs.{needs}
+use Rattle.engine64.proofs.start.Statement.{statement}
+use Rattle.engine64.proofs.start.Tie as tie
+
+eom-of-requires : tie.Need-eom-of-requires
+eom-of-requires c κs = search needs
+
+cast-chain : tie.Need-cast-chain
+cast-chain c = record { fits = omega (arith, c .before .before .before .before .before .pre .0 .chain, lake-sound .chainFits, lake-sound .textFits, lake-sound .offsetsSmall) }
+
+open-group-requires : tie.Need-open-group-requires
+open-group-requires c κs = search needs
+
+knot-requires : tie.Need-knot-requires
+knot-requires c κs = search needs
+
+add-t12 : tie.Need-add-t12
+add-t12 c = search needs
+
+returns : tie.Need-returns
+returns c =
+    let a = c .before .before .before .before .before .before .before .before .before .args in
+    let q = c .before .before .before .before .before .before .before .before .before .pre .0 .chain in
+    let g = c .before .before .before .open-group in
+    let z = start-knot 1600 64 256 lakeF lake-sound (a .key .now) (a .nonce .now) (a .forget) (a .tagged) (bytes 8 (g .result .lanes)) (bytes 8 (c .before .knot .result)) (g .result .runs)
+    (c .before .before .before .before .before .if1 .taken) (rw q at (g .ensures .0)) (rw q at (g .ensures .1 .0)) (rw (c .before .before .before .before .before .before .eom-of .ensures) at (c .before .knot .ensures)) in
+    (z .0, z .1)
+
+open-group-requires-2 : tie.Need-open-group-requires-2
+open-group-requires-2 c κs = search needs
+
+returns-2 : tie.Need-returns-2
+returns-2 c =
+    let a = c .before .before .before .before .before .args in
+    let g = c .open-group2 in
+    let e = start-plain 1600 64 256 lakeF lake-sound (a .key .now) (a .nonce .now) (a .forget) (a .tagged) (c .before .if1 .left) in
+    let w = c .before .before .eom-of .ensures in
+    (rw w at (g .ensures .0) ∙ ap (λ (x : Ride). x .states) e, rw w at (g .ensures .1 .0) ∙ ap (λ (x : Ride). length (x .blocks)) e)
+
+pub start-spec : {M : Type 1} → statement M
+start-spec =
+    tie.close
+    (tie.spec
+    eom-of-requires
+    cast-chain
+    open-group-requires
+    knot-requires
+    add-t12
+    returns
+    open-group-requires-2
+    returns-2)

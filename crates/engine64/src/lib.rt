@@ -1,0 +1,184 @@
+// The Engine and the Motorist on 25 lanes of 64 bits, for one Piston: a group of blocks, a knot, a whole message and a whole start.
+// Serves Lake's calls, which know the session; here are lanes, a place where text starts and slices. No public call.
+ghost use mathlib.Core.Path.{_≡_};
+ghost use mathlib.Core.List.{[], _∷_, _++_};
+ghost use Prim.Native.Nat.{_+_, _-_, _%_, _≤_, _<_};
+ghost use lib.ListN.{length, take, drop};
+ghost use Rattle.keccak.specs.State.{bytes};
+ghost use Rattle.motorist.specs.Instance.{lake, textRate, fullRate, packLength, chainLength};
+ghost use Rattle.motorist.specs.Piston.{block, absorb};
+ghost use Rattle.motorist.specs.Engine.{group};
+ghost use Rattle.motorist.specs.Counts.{RatesOf};
+ghost use Rattle.motorist.specs.Keyak.{lakeF};
+ghost use Rattle.motorist.specs.Motorist.{message, start};
+ghost use Rattle.plan.specs.Opening.{opening, opened};
+use motorist::Rates;
+
+// The lanes after some blocks, and how many they were.
+pub struct Ran {
+    pub lanes: [u64; 25],
+    pub runs: usize,
+}
+
+// A group: all of the text, from byte `at` of its first block on, with metadata beside it, then the metadata that is left.
+fn group(
+    rates: Rates,
+    lanes: [u64; 25],
+    at: usize,
+    text: &[u8],
+    meta: &[u8],
+    eom: u8,
+    out: &mut [u8],
+    decrypt: bool,
+) -> Ran
+    requires { ⌜ (RatesOf lake rates) × (at < textRate lake) × (at % 8 ≡ 0) × (length (now text) ≤ length (now out)) ⌝ }
+    requires { ⌜ (length (now text) ≤ 65535) × (length (now meta) ≤ 65535) ⌝ }
+    ensures { λ r. ⌜ bytes 8 (r .lanes) ∷ [] ≡ group lake lakeF decrypt (bytes 8 lanes ∷ []) at (now (text .entry)) (now (meta .entry)) (eom ∷ []) .states ⌝ }
+    ensures { λ r. ⌜ now (out .exit) ≡ group lake lakeF decrypt (bytes 8 lanes ∷ []) at (now (text .entry)) (now (meta .entry)) (eom ∷ []) .output ++ drop (length (now (text .entry))) (now (out .entry)) ⌝ }
+    ensures { λ r. ⌜ (r .runs ≡ length (group lake lakeF decrypt (bytes 8 lanes ∷ []) at (now (text .entry)) (now (meta .entry)) (eom ∷ []) .blocks)) × (r .runs ≤ 131071) ⌝ }
+{
+    let mut state = lanes;
+    let mut runs = 0;
+    let mut cut = plan::cut_at(rates, at, 0, text.len(), 0, meta.len());
+    let mut going = true;
+    while going {
+        let more = plan::more(cut, text.len(), meta.len());
+        let next = piston64::block(
+            rates,
+            state,
+            cut,
+            text,
+            meta,
+            plan::eom_at(more, eom),
+            out,
+            decrypt,
+        );
+        state = next;
+        runs += 1;
+        let after = plan::cut_at(rates, 0, cut.textend, text.len(), cut.metaend, meta.len());
+        cut = after;
+        going = more;
+    }
+    Ran { lanes: state, runs }
+}
+
+// A knot: the chaining value goes in as metadata of one new block.
+fn knot(rates: Rates, lanes: [u64; 25], eom: u8) -> [u64; 25]
+    requires { ⌜ RatesOf lake rates ⌝ }
+    ensures { λ r. ⌜ bytes 8 r ≡ absorb lakeF (bytes 8 lanes) (block lake 0 [] 0 (take (chainLength lake) (bytes 8 lanes)) eom) ⌝ }
+{
+    let mut value = [0u8; 32];
+    lanes64::squeeze(lanes, &mut value);
+    piston64::inject(rates, lanes, &value, eom)
+}
+
+// A whole message.
+pub fn message(
+    rates: Rates,
+    lanes: [u64; 25],
+    at: usize,
+    text: &[u8],
+    meta: &[u8],
+    forget: bool,
+    out: &mut [u8],
+    decrypt: bool,
+) -> Ran
+    requires { ⌜ (RatesOf lake rates) × (at < textRate lake) × (at % 8 ≡ 0) × (length (now text) ≤ length (now out)) ⌝ }
+    requires { ⌜ (length (now text) ≤ 65535) × (length (now meta) ≤ 65535) ⌝ }
+    ensures { λ r. ⌜ bytes 8 (r .lanes) ∷ [] ≡ message lake lakeF decrypt (bytes 8 lanes ∷ []) at (record { text = now (text .entry); meta = now (meta .entry); forgets = forget }) .states ⌝ }
+    ensures { λ r. ⌜ now (out .exit) ≡ message lake lakeF decrypt (bytes 8 lanes ∷ []) at (record { text = now (text .entry); meta = now (meta .entry); forgets = forget }) .output ++ drop (length (now (text .entry))) (now (out .entry)) ⌝ }
+    ensures { λ r. ⌜ r .runs ≡ length (message lake lakeF decrypt (bytes 8 lanes ∷ []) at (record { text = now (text .entry); meta = now (meta .entry); forgets = forget }) .blocks) ⌝ }
+{
+    let eom = plan::eom_tag(rates);
+    if forget {
+        let chain = rates.chain.0 as u8;
+        let chained = group(rates, lanes, at, text, meta, chain, out, decrypt);
+        let before = chained.lanes;
+        let after = knot(rates, before, eom);
+        return Ran {
+            lanes: after,
+            runs: chained.runs + 1,
+        };
+    }
+    group(rates, lanes, at, text, meta, eom, out, decrypt)
+}
+
+// One block of a start, by way of a lent part of its length: what it injects from byte `done` on.
+fn open_in(
+    rates: Rates,
+    lanes: [u64; 25],
+    key: &[u8],
+    nonce: &[u8],
+    done: usize,
+    part: &mut [u8],
+    eom: u8,
+) -> [u64; 25]
+    requires { ⌜ (RatesOf lake rates) × (length (now key) ≤ 32) × (length (now nonce) ≤ 1024) ⌝ }
+    requires { ⌜ (length (now part) ≤ fullRate lake) × (done + length (now part) ≤ length (opening (packLength lake) (now key) (now nonce))) ⌝ }
+    ensures { λ r. ⌜ bytes 8 r ≡ absorb lakeF (bytes 8 lanes) (block lake 0 [] 0 (take (length (now (part .entry))) (drop done (opening (packLength lake) (now (key .entry)) (now (nonce .entry))))) eom) ⌝ }
+{
+    plan::opening_part(rates.pack.0, key, nonce, done, part);
+    piston64::inject(rates, lanes, part, eom)
+}
+
+// The same with n bytes.
+fn open_block(
+    rates: Rates,
+    lanes: [u64; 25],
+    key: &[u8],
+    nonce: &[u8],
+    done: usize,
+    n: usize,
+    eom: u8,
+) -> [u64; 25]
+    requires { ⌜ (RatesOf lake rates) × (length (now key) ≤ 32) × (length (now nonce) ≤ 1024) ⌝ }
+    requires { ⌜ (n ≤ fullRate lake) × (done + n ≤ length (opening (packLength lake) (now key) (now nonce))) ⌝ }
+    ensures { λ r. ⌜ bytes 8 r ≡ absorb lakeF (bytes 8 lanes) (block lake 0 [] 0 (take n (drop done (opening (packLength lake) (now (key .entry)) (now (nonce .entry))))) eom) ⌝ }
+{
+    let mut buffer = [0u8; 200];
+    open_in(rates, lanes, key, nonce, done, &mut buffer[..n], eom)
+}
+
+// The blocks of a start, without its knot: key pack, nonce, number and index of the Piston, a block's worth at a time.
+fn open_group(rates: Rates, key: &[u8], nonce: &[u8], eom: u8) -> Ran
+    requires { ⌜ (RatesOf lake rates) × (length (now key) ≤ 32) × (length (now nonce) ≤ 1024) ⌝ }
+    ensures { λ r. ⌜ bytes 8 (r .lanes) ∷ [] ≡ opened lake lakeF (now (key .entry)) (now (nonce .entry)) eom .states ⌝ }
+    ensures { λ r. ⌜ (r .runs ≡ length (opened lake lakeF (now (key .entry)) (now (nonce .entry)) eom .blocks)) × (r .runs ≤ 2000) ⌝ }
+{
+    let full = rates.full.0;
+    let total = rates.pack.0 + nonce.len() + 2;
+    let mut state = lanes64::zero();
+    let mut done = 0;
+    let mut runs = 0;
+    while full < total - done {
+        let next = open_block(rates, state, key, nonce, done, full, 0);
+        state = next;
+        done += full;
+        runs += 1;
+    }
+    let last = open_block(rates, state, key, nonce, done, total - done, eom);
+    Ran {
+        lanes: last,
+        runs: runs + 1,
+    }
+}
+
+// A whole start.
+pub fn start(rates: Rates, key: &[u8], nonce: &[u8], forget: bool, tagged: bool) -> Ran
+    requires { ⌜ (RatesOf lake rates) × (length (now key) ≤ 32) × (length (now nonce) ≤ 1024) ⌝ }
+    ensures { λ r. ⌜ bytes 8 (r .lanes) ∷ [] ≡ start lake lakeF (record { key = now (key .entry); nonce = now (nonce .entry); tagged = tagged; forgets = forget }) .states ⌝ }
+    ensures { λ r. ⌜ r .runs ≡ length (start lake lakeF (record { key = now (key .entry); nonce = now (nonce .entry); tagged = tagged; forgets = forget }) .blocks) ⌝ }
+{
+    let eom = plan::eom_of(rates, tagged);
+    if forget {
+        let chain = rates.chain.0 as u8;
+        let chained = open_group(rates, key, nonce, chain);
+        let before = chained.lanes;
+        let after = knot(rates, before, eom);
+        return Ran {
+            lanes: after,
+            runs: chained.runs + 1,
+        };
+    }
+    open_group(rates, key, nonce, eom)
+}

@@ -9,10 +9,10 @@ ghost use Rattle.motorist.specs.Instance.{river, fullRate};
 ghost use Rattle.motorist.specs.Piston.{xors, mask, plain, block, absorb};
 ghost use Rattle.piston.specs.Placed.{placed};
 ghost use Rattle.plan.specs.Cut.{Fits, stepped};
-ghost use Rattle.motorist.specs.Counts.{RatesOf};
+ghost use Rattle.rates.specs.Counts.{RatesOf};
 ghost use Rattle.motorist.specs.Keyak.{riverF};
-use motorist::Rates;
 use plan::Cut;
+use rates::Rates;
 
 // A block's text: what is under the key stream goes to out, and the plaintext into the state.
 fn crypt(lanes: [u32; 25], at: usize, text: &[u8], out: &mut [u8], decrypt: bool) -> [u32; 25]

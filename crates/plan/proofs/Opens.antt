@@ -11,8 +11,8 @@ use Rattle.motorist.specs.Motorist.{keyPack}
 use Rattle.motorist.proofs.KeyPack.{length-pad}
 use Rattle.slices.proofs.Parts.{grow-one}
 use Rattle.motorist.specs.Instance.{Instance, Sound, packLength}
-use Rattle.motorist.specs.Counts.{RatesOf}
-use Rattle.motorist.specs.declared.Rates.{Rates}
+use Rattle.rates.specs.Counts.{RatesOf}
+use Rattle.rates.specs.declared.Rates.{Rates}
 use Rattle.plan.specs.Opening.{opening}
 
 -- element i of a and b together, from where b begins

@@ -10,7 +10,7 @@ ghost use Rattle.plan.specs.Opening.{opening};
 ghost use Rattle.motorist.specs.Piston.{cryptEnd, eom};
 ghost use Rattle.motorist.specs.Motorist.{taken};
 ghost use Rattle.motorist.specs.Instance.{tagLength};
-use motorist::Rates;
+use rates::Rates;
 
 // The block's text is the message's from `text` up to `textend`, from byte `at` of the block on; metadata likewise, from `from` on.
 pub struct Cut {

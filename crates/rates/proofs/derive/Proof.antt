@@ -1,8 +1,8 @@
 -- `derive` meets its contract: each step is the definition's.
 use borrow.Author.Needs.{needs}
 use Rattle.motorist.specs.Instance.{textRate, fullRate, packLength, chainLength}
-use Rattle.motorist.proofs.derive.Statement.{statement}
-use Rattle.motorist.proofs.derive.Tie as tie
+use Rattle.rates.proofs.derive.Statement.{statement}
+use Rattle.rates.proofs.derive.Tie as tie
 
 larger-requires : tie.Need-larger-requires
 larger-requires c κs = search needs

@@ -2,8 +2,8 @@
 use borrow.Author.Needs.{needs}
 use native.Mathlib.Omega.{arith}
 use native.Mathlib.Nat.{div-mul-le-self}
-use Rattle.motorist.proofs.lanes_within.Statement.{statement}
-use Rattle.motorist.proofs.lanes_within.Tie as tie
+use Rattle.rates.proofs.lanes_within.Statement.{statement}
+use Rattle.rates.proofs.lanes_within.Tie as tie
 
 div-t3 : tie.Need-div-t3
 div-t3 c = search needs

@@ -1,7 +1,7 @@
 -- What the code's rates are to be.
 use mathlib.Core.Path.{_≡_}
 use Rattle.motorist.specs.Instance.{Instance, textRate, fullRate, packLength, chainLength, tagLength}
-use Rattle.motorist.specs.declared.Rates.{Rates}
+use Rattle.rates.specs.declared.Rates.{Rates}
 
 -- the rates r are those of the instance i
 pub record RatesOf (i : Instance) (r : Rates) : Type 0 where

@@ -1,0 +1,2 @@
+-- What the code's rates are to be.
+pub mod Counts

@@ -1,0 +1,4 @@
+-- What a reader of this crate must believe: the header in the words of the client's paper, and the outcome of each call.
+
+pub mod Header
+pub mod Series

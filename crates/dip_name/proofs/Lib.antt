@@ -1,0 +1,3 @@
+-- What is proved of a well name: the test in plain words.
+
+pub mod Named

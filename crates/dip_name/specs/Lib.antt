@@ -1,0 +1,3 @@
+-- What a reader of this crate must believe: what a well name is.
+
+pub mod Name

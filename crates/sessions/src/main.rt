@@ -73,15 +73,7 @@ fn ended(line: &[u8], hand: Hand, t: Tally) -> Progress {
 }
 
 // One line, by its first letter.
-fn turn(
-    line: &[u8],
-    r: Progress,
-    text: &mut [u8],
-    meta: &mut [u8],
-    out: &mut [u8],
-    tag: &mut [u8],
-    spare: &mut [u8],
-) -> Progress {
+fn turn(line: &[u8], r: Progress) -> Progress {
     let h = r.hand;
     let t = r.tally;
     if line.len() == 0 {
@@ -92,18 +84,10 @@ fn turn(
         b'l' => opened(line, t, false),
         b'r' => opened(line, t, true),
         b'h' => held(t, steps::hold(line, h)),
-        b's' => called(t, 0, steps::start(line, h, text, meta, tag, spare)),
-        b'w' => called(
-            t,
-            1,
-            steps::message(line, h, false, text, meta, out, tag, spare),
-        ),
-        b'u' => called(
-            t,
-            2,
-            steps::message(line, h, true, text, meta, out, tag, spare),
-        ),
-        b'p' => called(t, 3, steps::permute(line, h, spare)),
+        b's' => called(t, 0, steps::start(line, h)),
+        b'w' => called(t, 1, steps::message(line, h, false)),
+        b'u' => called(t, 2, steps::message(line, h, true)),
+        b'p' => called(t, 3, steps::permute(line, h)),
         b'e' => ended(line, h, t),
         _ => noted(h, next_line(t, false), false),
     }
@@ -117,21 +101,14 @@ fn past(at: usize, end: usize, most: usize) -> usize
     if end < most { end + 1 } else { end }
 }
 
-fn lines(
-    file: &[u8],
-    text: &mut [u8],
-    meta: &mut [u8],
-    out: &mut [u8],
-    tag: &mut [u8],
-    spare: &mut [u8],
-) -> Tally {
+fn lines(file: &[u8]) -> Tally {
     let hand = unstarted(false);
     let tally = tally::none();
     let mut r = Progress { hand, tally };
     let mut at = 0;
     while at < file.len() {
         let end = until(file, at, b'\n');
-        let one = turn(&file[at..end], r, text, meta, out, tag, spare);
+        let one = turn(&file[at..end], r);
         r = one;
         at = past(at, end, file.len());
     }
@@ -203,61 +180,28 @@ fn tell(which: usize, size: usize, t: Tally) {
     }
 }
 
-fn report(
-    which: usize,
-    file: &mut [u8],
-    text: &mut [u8],
-    meta: &mut [u8],
-    out: &mut [u8],
-    tag: &mut [u8],
-    spare: &mut [u8],
-) {
+fn report(which: usize, file: &mut [u8]) {
     let n = load(which, file);
-    let t = lines(&file[0..n], text, meta, out, tag, spare);
+    let t = lines(&file[0..n]);
     tell(which, n, t);
 }
 
-fn all(
-    file: &mut [u8],
-    text: &mut [u8],
-    meta: &mut [u8],
-    out: &mut [u8],
-    tag: &mut [u8],
-    spare: &mut [u8],
-) {
+fn all(file: &mut [u8]) {
     let mut which = SAMPLE;
     while which < 6 {
-        report(which, file, text, meta, out, tag, spare);
+        report(which, file);
         which += 1;
     }
 }
 
-// Room for a file, and for an output that is a little longer than the longest text.
+// Room for a file.
 fn file_room() -> [u8; 2000000]
     ensures { λ r. ⌜ 2000000 ≡ length r ⌝ }
 {
     [0; 2000000]
 }
 
-fn out_room() -> [u8; 65600]
-    ensures { λ r. ⌜ 65600 ≡ length r ⌝ }
-{
-    [0; 65600]
-}
-
 fn main() {
     let mut file = file_room();
-    let mut text = io::large_buffer();
-    let mut meta = io::large_buffer();
-    let mut out = out_room();
-    let mut tag = [0u8; 32];
-    let mut spare = out_room();
-    all(
-        &mut file,
-        &mut text,
-        &mut meta,
-        &mut out,
-        &mut tag,
-        &mut spare,
-    );
+    all(&mut file);
 }

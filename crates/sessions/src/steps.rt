@@ -1,6 +1,4 @@
 // The steps of a session: the words of a line are read, the call is made, and all that it answers and leaves is compared.
-ghost use Prim.Native.Nat.{_≤_};
-ghost use lib.ListN.{length};
 use crate::hand;
 use crate::hand::Hand;
 use crate::hand::Turn;
@@ -9,6 +7,7 @@ use table::StartTag;
 use vectors::compare::answer;
 use vectors::compare::bytes;
 use vectors::compare::count;
+use vectors::compare::room;
 use vectors::read::LARGEST;
 use vectors::read::Seen;
 use vectors::read::begun;
@@ -47,18 +46,18 @@ fn use_of(n: usize) -> StartTag {
 }
 
 // The lanes in hand, as bytes.
-fn lanes(line: &[u8], seen: Seen, river: bool, state: [u8; 200], spare: &mut [u8]) -> Seen {
+fn lanes(line: &[u8], seen: Seen, river: bool, state: [u8; 200]) -> Seen {
     if river {
-        return bytes(line, seen, &state[0..100], spare);
+        return bytes(line, seen, &state[0..100]);
     }
-    bytes(line, seen, &state, spare)
+    bytes(line, seen, &state)
 }
 
 // The lanes, PHASE and TEXTSTART, the record; with them the line ends.
-fn left(line: &[u8], seen: Seen, h: Hand, spare: &mut [u8]) -> Step {
+fn left(line: &[u8], seen: Seen, h: Hand) -> Step {
     let state = h.state;
     let phase = h.phase;
-    let first = lanes(line, seen, h.river, state, spare);
+    let first = lanes(line, seen, h.river, state);
     let second = count(line, first, phase_number(phase));
     let at = count(line, second, h.at);
     Step {
@@ -92,12 +91,12 @@ pub fn hold(line: &[u8], h: Hand) -> Step {
 }
 
 // permute ROUNDS DONE RECORD
-pub fn permute(line: &[u8], h: Hand, spare: &mut [u8]) -> Step {
+pub fn permute(line: &[u8], h: Hand) -> Step {
     let rounds = number(line, begun(line), LARGEST);
     let p = hand::permute(h, rounds.value);
     let done = count(line, rounds.seen, p.rounds);
     let after = p.hand;
-    left(line, done, after, spare)
+    left(line, done, after)
 }
 
 // A start, and what it left: NUMBER WRITTEN RUNS TAGAFTER RECORD.
@@ -110,28 +109,20 @@ fn started(
     forget: bool,
     choice: StartTag,
     tag: &mut [u8],
-    spare: &mut [u8],
 ) -> Step {
     let t = hand::start(h, key, nonce, forget, choice, tag);
     let told = answer(line, seen, t.answer);
-    let tags = bytes(line, told, tag, spare);
+    let tags = bytes(line, told, tag);
     let after = t.hand;
-    left(line, tags, after, spare)
+    left(line, tags, after)
 }
 
 // USE FORGET TAG: the choices, and the tag buffer that is lent.
-fn start_on(
-    line: &[u8],
-    seen: Seen,
-    h: Hand,
-    key: &[u8],
-    nonce: &[u8],
-    tag: &mut [u8],
-    spare: &mut [u8],
-) -> Step {
+fn start_on(line: &[u8], seen: Seen, h: Hand, key: &[u8], nonce: &[u8]) -> Step {
+    let mut tag = [0u8; 32];
     let choice = number(line, seen, 2);
     let forget = number(line, choice.seen, 1);
-    let lent = given(line, forget.seen, tag);
+    let lent = given(line, forget.seen, &mut tag);
     let n = lent.length;
     started(
         line,
@@ -142,24 +133,23 @@ fn start_on(
         forget.value != 0,
         use_of(choice.value),
         &mut tag[0..n],
-        spare,
     )
 }
 
-// start KEY NONCE USE FORGET TAG ..; the key is read into `text`, the nonce into `meta`.
-pub fn start(
-    line: &[u8],
-    h: Hand,
-    text: &mut [u8],
-    meta: &mut [u8],
-    tag: &mut [u8],
-    spare: &mut [u8],
-) -> Step {
-    let key = given(line, begun(line), text);
-    let nonce = given(line, key.seen, meta);
-    let k = key.length;
-    let n = nonce.length;
-    start_on(line, nonce.seen, h, &text[0..k], &meta[0..n], tag, spare)
+// NONCE
+fn start_with(line: &[u8], seen: Seen, h: Hand, key: &[u8]) -> Step {
+    let mut nonce = io::large_buffer();
+    let told = given(line, seen, &mut nonce);
+    let n = told.length;
+    start_on(line, told.seen, h, key, &nonce[0..n])
+}
+
+// start KEY NONCE USE FORGET TAG ..
+pub fn start(line: &[u8], h: Hand) -> Step {
+    let mut key = io::large_buffer();
+    let told = given(line, begun(line), &mut key);
+    let n = told.length;
+    start_with(line, told.seen, h, &key[0..n])
 }
 
 fn call(
@@ -177,7 +167,15 @@ fn call(
     hand::wrap(h, text, meta, forget, out, tag)
 }
 
-// A message, and what it left: NUMBER WRITTEN RUNS OUTPUTAFTER TAGAFTER RECORD.
+// What a message left: NUMBER WRITTEN RUNS OUTPUTAFTER TAGAFTER RECORD.
+fn after(line: &[u8], seen: Seen, t: Turn, out: &[u8], tag: &[u8]) -> Step {
+    let told = answer(line, seen, t.answer);
+    let output = bytes(line, told, out);
+    let tags = bytes(line, output, tag);
+    let after = t.hand;
+    left(line, tags, after)
+}
+
 fn sent(
     line: &[u8],
     seen: Seen,
@@ -188,71 +186,68 @@ fn sent(
     forget: bool,
     out: &mut [u8],
     tag: &mut [u8],
-    spare: &mut [u8],
 ) -> Step {
     let t = call(h, open, text, meta, forget, out, tag);
-    let told = answer(line, seen, t.answer);
-    let output = bytes(line, told, out, spare);
-    let tags = bytes(line, output, tag, spare);
-    let after = t.hand;
-    left(line, tags, after, spare)
+    after(line, seen, t, out, tag)
 }
 
-// FORGET OUTPUT TAG: the choice, and the buffers that are lent.
-fn send_on(
+// TAG: the tag buffer that is lent.
+fn send_tag(
     line: &[u8],
     seen: Seen,
     h: Hand,
     open: bool,
     text: &[u8],
     meta: &[u8],
+    forget: bool,
     out: &mut [u8],
-    tag: &mut [u8],
-    spare: &mut [u8],
 ) -> Step {
-    let forget = number(line, seen, 1);
-    let o = given(line, forget.seen, out);
-    let t = given(line, o.seen, tag);
-    let m = o.length;
-    let n = t.length;
+    let mut tag = [0u8; 32];
+    let lent = given(line, seen, &mut tag);
+    let n = lent.length;
     sent(
         line,
-        t.seen,
+        lent.seen,
+        h,
+        open,
+        text,
+        meta,
+        forget,
+        out,
+        &mut tag[0..n],
+    )
+}
+
+// FORGET OUTPUT: the choice, and the output buffer that is lent.
+fn send_on(line: &[u8], seen: Seen, h: Hand, open: bool, text: &[u8], meta: &[u8]) -> Step {
+    let mut out = room();
+    let forget = number(line, seen, 1);
+    let lent = given(line, forget.seen, &mut out);
+    let n = lent.length;
+    send_tag(
+        line,
+        lent.seen,
         h,
         open,
         text,
         meta,
         forget.value != 0,
-        &mut out[0..m],
-        &mut tag[0..n],
-        spare,
+        &mut out[0..n],
     )
 }
 
+// METADATA
+fn send_with(line: &[u8], seen: Seen, h: Hand, open: bool, text: &[u8]) -> Step {
+    let mut meta = io::large_buffer();
+    let told = given(line, seen, &mut meta);
+    let n = told.length;
+    send_on(line, told.seen, h, open, text, &meta[0..n])
+}
+
 // wrap or unwrap TEXT METADATA FORGET OUTPUT TAG ..
-pub fn message(
-    line: &[u8],
-    h: Hand,
-    open: bool,
-    text: &mut [u8],
-    meta: &mut [u8],
-    out: &mut [u8],
-    tag: &mut [u8],
-    spare: &mut [u8],
-) -> Step {
-    let p = given(line, begun(line), text);
-    let a = given(line, p.seen, meta);
-    let m = p.length;
-    let n = a.length;
-    send_on(
-        line,
-        a.seen,
-        h,
-        open,
-        &text[0..m],
-        &meta[0..n],
-        out,
-        tag,
-        spare,
-    )
+pub fn message(line: &[u8], h: Hand, open: bool) -> Step {
+    let mut text = io::large_buffer();
+    let told = given(line, begun(line), &mut text);
+    let n = told.length;
+    send_with(line, told.seen, h, open, &text[0..n])
 }

@@ -1,4 +1,6 @@
 // Holding what a call answered and left against the words of a line: numbers, and every byte of a buffer. A '-' expects nothing.
+ghost use mathlib.Core.Path.{_≡_};
+ghost use lib.ListN.{length};
 use crate::read::LARGEST;
 use crate::read::Seen;
 use crate::read::dash;
@@ -35,19 +37,32 @@ fn dashes(line: &[u8], seen: Seen) -> Seen {
     dash(line, place)
 }
 
-// The words LENGTH A B PLACE HEX of a buffer: its length and all its bytes. They are read into `spare`.
-pub fn bytes(line: &[u8], seen: Seen, got: &[u8], spare: &mut [u8]) -> Seen {
-    let untold = dashes(line, seen);
-    if untold.same {
-        return untold;
-    }
-    let part = given(line, seen, spare);
+// Room for the longest buffer that a line tells of.
+pub fn room() -> [u8; 65600]
+    ensures { λ r. ⌜ 65600 ≡ length r ⌝ }
+{
+    [0; 65600]
+}
+
+// The words LENGTH A B PLACE HEX of a buffer, which it has to be as long as, and equal to.
+fn equal(line: &[u8], seen: Seen, got: &[u8]) -> Seen {
+    let mut spare = room();
+    let part = given(line, seen, &mut spare);
     let n = part.length;
     let past = part.seen;
     Seen {
         same: past.same & same(&spare[0..n], got),
         next: past.next,
     }
+}
+
+// The words LENGTH A B PLACE HEX of a buffer: its length and all its bytes.
+pub fn bytes(line: &[u8], seen: Seen, got: &[u8]) -> Seen {
+    let untold = dashes(line, seen);
+    if untold.same {
+        return untold;
+    }
+    equal(line, seen, got)
 }
 
 // The words NUMBER WRITTEN RUNS.

@@ -7,10 +7,10 @@ use Rattle.sessions.proofs.all.Statement.{statement}
 use Rattle.sessions.proofs.all.Tie as tie
 
 abbrev Inv-loop : tie.InvT-loop
-Inv-loop file₀ text₀ meta₀ out₀ tag₀ spare₀ which₀ file text meta out tag spare which = (which ≤ 6) × (length file ≡ length file₀) × (length text ≡ length text₀) × (length meta ≡ length meta₀) × (length out ≡ length out₀) × (length tag ≡ length tag₀) × (length spare ≡ length spare₀)
+Inv-loop file₀ which₀ file which = (which ≤ 6) × (length file ≡ length file₀)
 
 abbrev μ-loop : tie.MeasureT-loop
-μ-loop file₀ text₀ meta₀ out₀ tag₀ spare₀ which₀ file text meta out tag spare which = 6 - which
+μ-loop file₀ which₀ file which = 6 - which
 
 loop-holds : tie.Need-loop-holds Inv-loop μ-loop
 loop-holds c = search needs
@@ -30,21 +30,6 @@ loop-again c = search needs
 same-length : tie.Need-same-length Inv-loop μ-loop
 same-length c = search needs
 
-same-length-2 : tie.Need-same-length-2 Inv-loop μ-loop
-same-length-2 c = search needs
-
-same-length-3 : tie.Need-same-length-3 Inv-loop μ-loop
-same-length-3 c = search needs
-
-same-length-4 : tie.Need-same-length-4 Inv-loop μ-loop
-same-length-4 c = search needs
-
-same-length-5 : tie.Need-same-length-5 Inv-loop μ-loop
-same-length-5 c = search needs
-
-same-length-6 : tie.Need-same-length-6 Inv-loop μ-loop
-same-length-6 c = search needs
-
 returns : tie.Need-returns Inv-loop μ-loop
 returns c = search needs
 
@@ -60,9 +45,4 @@ all-spec =
     loop-less
     loop-again
     same-length
-    same-length-2
-    same-length-3
-    same-length-4
-    same-length-5
-    same-length-6
     returns)

@@ -1,6 +1,6 @@
 // The main job: a year of dips, read from a plain text file, sealed month by month with Lake or River, opened again on a second
 // session and shown; then what must be refused. Arguments: lake or river, the file of dips, the key file, the nonce file.
-// The programs year, year_river and year_bad are this job on three inputs; year_cases shows what stops it before it seals.
+// The program year is this job on the sample year; year_cases shows what stops it before it seals, and three wells with River.
 ghost use Prim.Native.Nat.{_≤_};
 ghost use lib.ListN.{length};
 

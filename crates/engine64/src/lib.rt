@@ -2,7 +2,7 @@
 // Serves Lake's calls, which know the session; here are lanes, a place where text starts and slices. No public call.
 ghost use mathlib.Core.Path.{_≡_};
 ghost use mathlib.Core.List.{[], _∷_, _++_};
-ghost use Prim.Native.Nat.{_+_, _-_, _%_, _≤_, _<_};
+ghost use Prim.Native.Nat.{_+_, _%_, _≤_, _<_};
 ghost use lib.ListN.{length, take, drop};
 ghost use Rattle.keccak.specs.State.{bytes};
 ghost use Rattle.motorist.specs.Instance.{lake, textRate, fullRate, packLength, chainLength};

@@ -1,7 +1,7 @@
 // The rates of an instance, in code: derived from width, lane and capacity, which are counted in bits, by document 003's rule.
 // Serves the block code, which takes every such number from here; no public call.
 ghost use mathlib.Core.Path.{_≡_};
-ghost use Prim.Native.Nat.{_+_, _-_, _*_, _/_, _<_, _≤_, max};
+ghost use Prim.Native.Nat.{_-_, _*_, _/_, _<_, _≤_, max};
 ghost use Rattle.motorist.specs.Instance.{solo, lake, river, inBytes, roundUp};
 ghost use Rattle.rates.specs.Counts.{RatesOf};
 

@@ -1,4 +1,6 @@
 // Headers: each case is a header, the 24 bytes that say it, and the number expected of writing the one and of reading the other.
+ghost use Prim.Native.Nat.{_≤_};
+ghost use lib.ListN.{length};
 use crate::tally;
 use crate::tally::Tally;
 use dip::Header;
@@ -61,17 +63,17 @@ fn same_header(a: Header, b: Header) -> bool {
     names & (a.borehole == b.borehole) & dates & (a.count == b.count) & (a.datum == b.datum)
 }
 
-// Written: the bytes where it is done, the buffer as it was where it is refused.
+// What a buffer of AA holds afterwards: the bytes where it is done, what it held where it is refused.
+fn bytes_left(raw: [u8; 24], expected: u8) -> [u8; 24] {
+    if expected == 0 { raw } else { [0xaa; 24] }
+}
+
+// Written.
 fn wrote(t: Tally, h: Header, raw: [u8; 24], expected: u8) -> Tally {
-    let before = [0xaau8; 24];
     let mut out = [0xaau8; 24];
     let number = dip::write_header(h, &mut out);
-    let right = if expected == 0 {
-        slices::same(&out, &raw)
-    } else {
-        slices::same(&out, &before)
-    };
-    tally::count(t, number, expected, right)
+    let then = bytes_left(raw, expected);
+    tally::count(t, number, expected, slices::same(&out, &then))
 }
 
 // Read: the header where it is done, all fields zero where it is refused.
@@ -88,6 +90,16 @@ fn read(t: Tally, h: Header, raw: [u8; 24], expected: u8) -> Tally {
 fn both(t: Tally, h: Header, raw: [u8; 24], expected: u8) -> Tally {
     let written = wrote(t, h, raw, expected);
     read(written, h, raw, expected)
+}
+
+// Bytes with another four from `at` on.
+fn with(raw: [u8; 24], at: usize, bytes: [u8; 4]) -> [u8; 24]
+    requires { ⌜ at ≤ 20 ⌝ }
+{
+    let mut out = raw;
+    let end = at + 4;
+    slices::copy(&mut out[at..end], &bytes);
+    out
 }
 
 // The usual header with another field, and its bytes with another part.
@@ -109,17 +121,18 @@ fn name(t: Tally, name: [u8; 12], expected: u8) -> Tally {
 fn borehole(t: Tally, borehole: u32, bytes: [u8; 4], expected: u8) -> Tally {
     let mut h = usual();
     h.borehole = borehole;
-    let mut raw = USUAL;
-    slices::copy(&mut raw[12..16], &bytes);
-    both(t, h, raw, expected)
+    both(t, h, with(USUAL, 12, bytes), expected)
 }
 
-fn date(t: Tally, year: u16, month: u8, bytes: [u8; 3], expected: u8) -> Tally {
+// `bytes` are those of the year.
+fn date(t: Tally, year: u16, month: u8, bytes: [u8; 2], expected: u8) -> Tally {
     let mut h = usual();
     h.year = year;
     h.month = month;
     let mut raw = USUAL;
-    slices::copy(&mut raw[16..19], &bytes);
+    raw[16] = bytes[0];
+    raw[17] = bytes[1];
+    raw[18] = month;
     both(t, h, raw, expected)
 }
 
@@ -134,9 +147,7 @@ fn count(t: Tally, count: u8, expected: u8) -> Tally {
 fn datum(t: Tally, datum: i32, bytes: [u8; 4], expected: u8) -> Tally {
     let mut h = usual();
     h.datum = datum;
-    let mut raw = USUAL;
-    slices::copy(&mut raw[20..24], &bytes);
-    both(t, h, raw, expected)
+    both(t, h, with(USUAL, 20, bytes), expected)
 }
 
 pub fn names(t: Tally) -> Tally {
@@ -181,16 +192,20 @@ pub fn boreholes(t: Tally) -> Tally {
     d
 }
 
+fn limits_of_dates(t: Tally) -> Tally {
+    let a = date(t, 1899, 12, [0x6b, 0x07], 12);
+    let b = date(a, 1900, 1, [0x6c, 0x07], 0);
+    let c = date(b, 2199, 12, [0x97, 0x08], 0);
+    date(c, 2200, 1, [0x98, 0x08], 12)
+}
+
 pub fn dates(t: Tally) -> Tally {
     tally::begin(b"year and month");
-    let a = date(t, 1899, 12, [0x6b, 0x07, 12], 12);
-    let b = date(a, 1900, 1, [0x6c, 0x07, 1], 0);
-    let c = date(b, 2199, 12, [0x97, 0x08, 12], 0);
-    let d = date(c, 2200, 1, [0x98, 0x08, 1], 12);
-    let e = date(d, 2024, 0, [0xe8, 0x07, 0], 12);
-    let f = date(e, 2024, 13, [0xe8, 0x07, 13], 12);
-    let g = date(f, 0, 6, [0, 0, 6], 12);
-    let h = date(g, 65_535, 255, [0xff, 0xff, 0xff], 12);
+    let d = limits_of_dates(t);
+    let e = date(d, 2024, 0, [0xe8, 0x07], 12);
+    let f = date(e, 2024, 13, [0xe8, 0x07], 12);
+    let g = date(f, 0, 6, [0, 0], 12);
+    let h = date(g, 65_535, 255, [0xff, 0xff], 12);
     tally::end();
     h
 }
@@ -205,12 +220,16 @@ pub fn counts(t: Tally) -> Tally {
     d
 }
 
-pub fn datums(t: Tally) -> Tally {
-    tally::begin(b"datum");
+fn low_datums(t: Tally) -> Tally {
     let a = datum(t, -500_001, [0xdf, 0x5e, 0xf8, 0xff], 14);
     let b = datum(a, -500_000, [0xe0, 0x5e, 0xf8, 0xff], 0);
     let c = datum(b, -1, [0xff, 0xff, 0xff, 0xff], 0);
-    let d = datum(c, 0, [0, 0, 0, 0], 0);
+    datum(c, 0, [0, 0, 0, 0], 0)
+}
+
+pub fn datums(t: Tally) -> Tally {
+    tally::begin(b"datum");
+    let d = low_datums(t);
     let e = datum(d, 9_000_000, [0x40, 0x54, 0x89, 0x00], 0);
     let f = datum(e, 9_000_001, [0x41, 0x54, 0x89, 0x00], 14);
     let g = datum(f, 2_147_483_647, [0xff, 0xff, 0xff, 0x7f], 14);
@@ -226,15 +245,10 @@ fn faulty(t: Tally, borehole: u32, bytes: [u8; 4], month: u8, count: u8, expecte
     h.month = month;
     h.count = count;
     h.datum = 9_000_001;
-    let mut raw = USUAL;
-    raw[18] = month;
-    raw[19] = count;
-    raw[20] = 0x41;
-    raw[21] = 0x54;
-    raw[22] = 0x89;
-    raw[23] = 0;
-    slices::copy(&mut raw[12..16], &bytes);
-    both(t, h, raw, expected)
+    let a = with(USUAL, 12, bytes);
+    let b = with(a, 16, [0xe8, 0x07, month, count]);
+    let c = with(b, 20, [0x41, 0x54, 0x89, 0x00]);
+    both(t, h, c, expected)
 }
 
 pub fn orders(t: Tally) -> Tally {
@@ -259,24 +273,36 @@ fn given(t: Tally, bytes: &[u8], expected: u8) -> Tally {
     )
 }
 
-fn lent(t: Tally, h: Header, out: &mut [u8], before: &[u8]) -> Tally {
-    let number = dip::write_header(h, out);
-    tally::count(t, number, 9, slices::same(out, before))
+fn cut(t: Tally, n: usize, expected: u8) -> Tally
+    requires { ⌜ n ≤ 24 ⌝ }
+{
+    let raw = USUAL;
+    given(t, &raw[0..n], expected)
+}
+
+fn write_part(h: Header, out: &mut [u8], n: usize) -> u8
+    requires { ⌜ n ≤ length (now out) ⌝ }
+{
+    dip::write_header(h, &mut out[0..n])
+}
+
+fn lent(t: Tally, h: Header, n: usize) -> Tally
+    requires { ⌜ n ≤ 25 ⌝ }
+{
+    let mut out = [0xaau8; 25];
+    let number = write_part(h, &mut out, n);
+    tally::count(t, number, 9, slices::same(&out, &[0xaa; 25]))
 }
 
 pub fn lengths(t: Tally) -> Tally {
     tally::begin(b"header length");
-    let raw = USUAL;
-    let a = given(t, &raw[..0], 9);
-    let b = given(a, &raw[..23], 9);
-    let c = given(b, &raw, 0);
+    let a = cut(t, 0, 9);
+    let b = cut(a, 23, 9);
+    let c = cut(b, 24, 0);
     let d = given(c, &[0; 25], 9);
-    let mut none = [0u8; 0];
-    let mut short = [0xaau8; 23];
-    let mut long = [0xaau8; 25];
-    let e = lent(d, usual(), &mut none, &[0; 0]);
-    let f = lent(e, usual(), &mut short, &[0xaa; 23]);
-    let g = lent(f, nothing(), &mut long, &[0xaa; 25]);
+    let e = lent(d, usual(), 0);
+    let f = lent(e, usual(), 23);
+    let g = lent(f, nothing(), 25);
     tally::end();
     g
 }

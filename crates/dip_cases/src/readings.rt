@@ -39,36 +39,46 @@ fn wrote(
     tally::count(t, answer.number, expected, slices::same(bytes, then))
 }
 
-// One reading among three, and its four bytes; the run has a fourth number, which stays.
-fn level(t: Tally, z: i32, b: [u8; 4]) -> Tally {
-    let raw = [1, 0, 0, 0, b[0], b[1], b[2], b[3], 0xff, 0xff, 0xff, 0xff];
-    let run = [1, z, -1, 7];
-    let mut into = [9, 9, 9, 7];
-    let mut bytes = [0xaau8; 12];
-    let a = read(t, 3, &raw, &mut into, &run, 0);
-    wrote(a, 3, &run, &mut bytes, &raw, 0)
+// What a lent run and lent bytes hold afterwards: those expected where it is done, what they held where it is refused.
+fn run_left(run: [i32; 4], expected: u8) -> [i32; 4] {
+    if expected == 0 { run } else { [9, 9, 9, 7] }
 }
 
-fn no_level(t: Tally, z: i32, b: [u8; 4]) -> Tally {
+fn bytes_left(raw: [u8; 12], expected: u8) -> [u8; 12] {
+    if expected == 0 { raw } else { [0xaa; 12] }
+}
+
+fn read_level(t: Tally, raw: [u8; 12], run: [i32; 4], expected: u8) -> Tally {
+    let mut into = [9, 9, 9, 7];
+    let then = run_left(run, expected);
+    read(t, 3, &raw, &mut into, &then, expected)
+}
+
+fn wrote_level(t: Tally, raw: [u8; 12], run: [i32; 4], expected: u8) -> Tally {
+    let mut bytes = [0xaau8; 12];
+    let then = bytes_left(raw, expected);
+    wrote(t, 3, &run, &mut bytes, &then, expected)
+}
+
+// One reading among three, and its four bytes; the run has a fourth number, which stays.
+fn level(t: Tally, z: i32, b: [u8; 4], expected: u8) -> Tally {
     let raw = [1, 0, 0, 0, b[0], b[1], b[2], b[3], 0xff, 0xff, 0xff, 0xff];
     let run = [1, z, -1, 7];
-    let mut into = [9, 9, 9, 7];
-    let mut bytes = [0xaau8; 12];
-    let a = read(t, 3, &raw, &mut into, &[9, 9, 9, 7], 16);
-    wrote(a, 3, &run, &mut bytes, &[0xaa; 12], 16)
+    let a = read_level(t, raw, run, expected);
+    wrote_level(a, raw, run, expected)
 }
 
 pub fn levels(t: Tally) -> Tally {
     tally::begin(b"reading");
-    let a = no_level(t, -2_000_001, [0x7f, 0x7b, 0xe1, 0xff]);
-    let b = level(a, -2_000_000, [0x80, 0x7b, 0xe1, 0xff]);
-    let c = level(b, 0, [0, 0, 0, 0]);
-    let d = level(c, 0x0001_0203, [3, 2, 1, 0]);
-    let e = level(d, 2_000_000, [0x80, 0x84, 0x1e, 0x00]);
-    let f = no_level(e, 2_000_001, [0x81, 0x84, 0x1e, 0x00]);
-    let g = no_level(f, 2_147_483_647, [0xff, 0xff, 0xff, 0x7f]);
-    let h = level(g, -2_147_483_648, [0, 0, 0, 0x80]);
-    let i = no_level(h, -2_147_483_647, [1, 0, 0, 0x80]);
+    let a = level(t, -2_000_001, [0x7f, 0x7b, 0xe1, 0xff], 16);
+    let b = level(a, -2_000_000, [0x80, 0x7b, 0xe1, 0xff], 0);
+    let c = level(b, 0, [0, 0, 0, 0], 0);
+    let d = level(c, 0x0001_0203, [3, 2, 1, 0], 0);
+    let e = level(d, 2_000_000, [0x80, 0x84, 0x1e, 0x00], 0);
+    let f = level(e, 2_000_001, [0x81, 0x84, 0x1e, 0x00], 16);
+    let g = level(f, 2_147_483_647, [0xff, 0xff, 0xff, 0x7f], 16);
+    let h = level(g, -2_147_483_648, [0, 0, 0, 0x80], 0);
+    let i = level(h, -2_147_483_647, [1, 0, 0, 0x80], 16);
     tally::end();
     i
 }
@@ -88,15 +98,22 @@ fn write_some(count: usize, from: &[i32], room: usize, bytes: &mut [u8], size: u
     answer.number
 }
 
-// Refused for the sizes alone, whatever the readings say: both calls leave what was lent.
-fn refused(t: Tally, room: usize, count: usize, size: usize, expected: u8) -> Tally {
+// Refused for the sizes alone, whatever the readings say: each call leaves what was lent.
+fn read_refused(t: Tally, room: usize, count: usize, size: usize, expected: u8) -> Tally {
     let mut run = [5i32; 40];
+    let number = read_some(count, &[0xaa; 160], size, &mut run, room);
+    tally::count(t, number, expected, same_run(&run, &[5; 40]))
+}
+
+fn write_refused(t: Tally, room: usize, count: usize, size: usize, expected: u8) -> Tally {
     let mut bytes = [0xaau8; 160];
-    let r = read_some(count, &bytes, size, &mut run, room);
-    let w = write_some(count, &run, room, &mut bytes, size);
-    let kept = same_run(&run, &[5; 40]) & slices::same(&bytes, &[0xaa; 160]);
-    let a = tally::count(t, r, expected, kept);
-    tally::count(a, w, expected, kept)
+    let number = write_some(count, &[5; 40], room, &mut bytes, size);
+    tally::count(t, number, expected, slices::same(&bytes, &[0xaa; 160]))
+}
+
+fn refused(t: Tally, room: usize, count: usize, size: usize, expected: u8) -> Tally {
+    let a = read_refused(t, room, count, size, expected);
+    write_refused(a, room, count, size, expected)
 }
 
 // The last two counts are such that four times the count is no number of the machine; the last would be 4 there.

@@ -1,6 +1,7 @@
 // Published hashes over the 64-bit permutation: SHA3-256 and SHAKE128, which take all 24 rounds, and TurboSHAKE128, which takes
 // the last 12. Messages are `abc`, 200 bytes A3 (the example of FIPS 202), and the pattern 00 01 .. FA 00 01 .. of RFC 9861.
-ghost use Prim.Native.Nat.{_≤_};
+ghost use Prim.Native.Nat.{_≤_, _*_};
+ghost use lib.ListN.{length};
 use crate::compare::Tally;
 use crate::compare::add;
 use crate::compare::agrees;
@@ -16,11 +17,19 @@ fn of(k: Kind, message: &[u8], hex: &[u8]) -> bool {
     agrees(&out, hex)
 }
 
-// The pattern, into all of `m`.
+// Byte i of the message of n bytes: of 3 it is `abc`, of 200 each is A3, of any other length it is the pattern.
+fn byte(n: usize, i: usize) -> u8 {
+    match n {
+        3 => b'a' + (i % 3) as u8,
+        200 => 0xA3,
+        _ => (i % 251) as u8,
+    }
+}
+
 fn fill(m: &mut [u8]) {
     let mut i = 0;
     while i < m.len() {
-        m[i] = (i % 251) as u8;
+        m[i] = byte(m.len(), i);
         i += 1;
     }
 }
@@ -30,15 +39,32 @@ fn of_filled(k: Kind, m: &mut [u8], hex: &[u8]) -> bool {
     of(k, m, hex)
 }
 
-// The same of the first `n` bytes of the pattern.
-fn ptn(k: Kind, n: usize, hex: &[u8]) -> bool
+// The same of the message of `n` bytes.
+fn of_length(k: Kind, n: usize, hex: &[u8]) -> bool
     requires { ⌜ n ≤ 289 ⌝ }
 {
     let mut m = [0u8; 289];
-    of_filled(k, &mut m[..n], hex)
+    of_filled(k, &mut m[0..n], hex)
 }
 
-// The same of no message, and the last 32 of 200 bytes, which stand in the second block of the output.
+// The hashes of messages of these lengths; the digits of all stand one after another in `hex`.
+fn all(k: Kind, lengths: &[usize], hex: &[u8]) -> Tally
+    requires { ⌜ (64 * length (now lengths) ≤ length (now hex)) × (length (now lengths) ≤ 6) ⌝ }
+{
+    let mut t = none();
+    let mut i = 0;
+    while i < lengths.len() {
+        let start = 64 * i;
+        let end = start + 64;
+        let same = of_length(k, lengths[i] % 290, &hex[start..end]);
+        let one = add(t, same);
+        t = one;
+        i += 1;
+    }
+    t
+}
+
+// Whether the last 32 of 200 bytes of the hash of no message, which stand in the second block of the output, are `hex`.
 fn second(k: Kind, hex: &[u8]) -> bool {
     let mut out = [0u8; 200];
     hash(k, b"", &mut out);
@@ -52,22 +78,14 @@ pub fn sha3_256() -> Tally {
         rounds: 24,
         suffix: 0x06,
     };
-    let many = [0xA3; 200];
-    let a = b"a7ffc6f8bf1ed76651c14756a061d662f580ff4de43b49fa82d80a4b80f8434a";
-    let t1 = add(none(), of(k, b"", a));
-    let b = b"3a985da74fe225b2045c172d6bd390bd855f086e3e9d525b46bfe24511431532";
-    let t2 = add(t1, of(k, b"abc", b));
-    let c = b"fded8fd9d6551c601eeb3b7c6bc5e5cfd8aad1d015b7e9aaa9c9b9475231d5e2";
-    let t3 = add(t2, ptn(k, 135, c));
-    let d = b"cf3ccff92480a29160c2d38317c430e14749bfee1788106957dfe73f8c4930e5";
-    let t4 = add(t3, ptn(k, 136, d));
-    let e = b"79f38adec5c20307a98ef76e8324afbfd46cfd81b22e3973c65fa1bd9de31787";
-    let t5 = add(t4, of(k, &many, e));
-    let f = b"d201f5cc7d18f67ba32439c73b64b0fe10c583fb5abe912d9c09160ecddab8ef";
-    let t6 = add(t5, ptn(k, 289, f));
+    let t = all(
+        k,
+        &[0, 3, 135, 136, 200, 289],
+        b"a7ffc6f8bf1ed76651c14756a061d662f580ff4de43b49fa82d80a4b80f8434a3a985da74fe225b2045c172d6bd390bd855f086e3e9d525b46bfe24511431532fded8fd9d6551c601eeb3b7c6bc5e5cfd8aad1d015b7e9aaa9c9b9475231d5e2cf3ccff92480a29160c2d38317c430e14749bfee1788106957dfe73f8c4930e579f38adec5c20307a98ef76e8324afbfd46cfd81b22e3973c65fa1bd9de31787d201f5cc7d18f67ba32439c73b64b0fe10c583fb5abe912d9c09160ecddab8ef",
+    );
     said(
         b"SHA3-256 (24 rounds) of 0, 3, 135, 136, 200 and 289 bytes",
-        t6,
+        t,
     )
 }
 
@@ -78,24 +96,18 @@ pub fn shake128() -> Tally {
         rounds: 24,
         suffix: 0x1F,
     };
-    let many = [0xA3; 200];
-    let a = b"7f9c2ba4e88f827d616045507605853ed73b8093f6efbc88eb1a6eacfa66ef26";
-    let t1 = add(none(), of(k, b"", a));
-    let b = b"5881092dd818bf5cf8a3ddb793fbcba74097d5c526a6d35f97b83351940f2cc8";
-    let t2 = add(t1, of(k, b"abc", b));
-    let c = b"1e552791cc4e93a0d4a8dc47ae49228c2faa869e40e628f6ace477aec3f1ca7a";
-    let t3 = add(t2, ptn(k, 167, c));
-    let d = b"f15277eb61c4908d44a2853f3cde071ae2ed7a23461fbe162a1a98cf6875059c";
-    let t4 = add(t3, ptn(k, 168, d));
-    let e = b"131ab8d2b594946b9c81333f9bb6e0ce75c3b93104fa3469d3917457385da037";
-    let t5 = add(t4, of(k, &many, e));
-    let f = b"c01d8016e4e1fac53dd46048ee4c2200607dc7d9eda44571d332f2a35099808c";
-    let t6 = add(t5, ptn(k, 289, f));
-    let g = b"767be1fda69419dfb927e9df07348b196691abaeb580b32def58538b8d23f877";
-    let t7 = add(t6, second(k, g));
+    let t = all(
+        k,
+        &[0, 3, 167, 168, 200, 289],
+        b"7f9c2ba4e88f827d616045507605853ed73b8093f6efbc88eb1a6eacfa66ef265881092dd818bf5cf8a3ddb793fbcba74097d5c526a6d35f97b83351940f2cc81e552791cc4e93a0d4a8dc47ae49228c2faa869e40e628f6ace477aec3f1ca7af15277eb61c4908d44a2853f3cde071ae2ed7a23461fbe162a1a98cf6875059c131ab8d2b594946b9c81333f9bb6e0ce75c3b93104fa3469d3917457385da037c01d8016e4e1fac53dd46048ee4c2200607dc7d9eda44571d332f2a35099808c",
+    );
+    let last = second(
+        k,
+        b"767be1fda69419dfb927e9df07348b196691abaeb580b32def58538b8d23f877",
+    );
     said(
         b"SHAKE128 (24 rounds) of 0, 3, 167, 168, 200 and 289 bytes, and a second block of output",
-        t7,
+        add(t, last),
     )
 }
 
@@ -106,13 +118,10 @@ pub fn turboshake128() -> Tally {
         rounds: 12,
         suffix: 0x1F,
     };
-    let a = b"1e415f1c5983aff2169217277d17bb538cd945a397ddec541f1ce41af2c1b74c";
-    let t1 = add(none(), of(k, b"", a));
-    let b = b"55cedd6f60af7bb29a4042ae832ef3f58db7299f893ebb9247247d856958daa9";
-    let t2 = add(t1, ptn(k, 1, b));
-    let c = b"9c97d036a3bac819db70ede0ca554ec6e4c2a1a4ffbfd9ec269ca6a111161233";
-    let t3 = add(t2, ptn(k, 17, c));
-    let d = b"96c77c279e0126f7fc07c9b07f5cdae1e0be60bdbe10620040e75d7223a624d2";
-    let t4 = add(t3, ptn(k, 289, d));
-    said(b"TurboSHAKE128 (12 rounds) of 0, 1, 17 and 289 bytes", t4)
+    let t = all(
+        k,
+        &[0, 1, 17, 289],
+        b"1e415f1c5983aff2169217277d17bb538cd945a397ddec541f1ce41af2c1b74c55cedd6f60af7bb29a4042ae832ef3f58db7299f893ebb9247247d856958daa99c97d036a3bac819db70ede0ca554ec6e4c2a1a4ffbfd9ec269ca6a11116123396c77c279e0126f7fc07c9b07f5cdae1e0be60bdbe10620040e75d7223a624d2",
+    );
+    said(b"TurboSHAKE128 (12 rounds) of 0, 1, 17 and 289 bytes", t)
 }

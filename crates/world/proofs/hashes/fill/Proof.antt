@@ -15,8 +15,8 @@ abbrev μ-loop : tie.MeasureT-loop
 loop-holds : tie.Need-loop-holds Inv-loop μ-loop
 loop-holds c = search needs
 
-cast-m : tie.Need-cast-m Inv-loop μ-loop
-cast-m c = search needs
+byte-requires : tie.Need-byte-requires Inv-loop μ-loop
+byte-requires c κs = search needs
 
 slice-write-m : tie.Need-slice-write-m Inv-loop μ-loop
 slice-write-m c = search needs
@@ -43,7 +43,7 @@ fill-spec =
     Inv-loop
     μ-loop
     loop-holds
-    cast-m
+    byte-requires
     slice-write-m
     add-i
     loop-less

@@ -53,7 +53,21 @@ fn all_zero(s: &[u8]) -> bool {
     any == 0
 }
 
-// Tries a packet with its first `cut` bytes as header: the answer's number and words, and the output, which held other bytes.
+// The answer's number and words, and whether the output is zero.
+fn tell(number: u8, zero: bool, size: usize) {
+    show::number(number as usize);
+    show::put(b", ");
+    show::words(number);
+    if zero {
+        show::put(b"; no reading came out, the output is zero over ");
+    } else {
+        show::put(b"; the output is not zero over ");
+    }
+    show::number(size);
+    show::put(b" bytes\n");
+}
+
+// Tries a packet with its first `cut` bytes as header, and an output that held other bytes.
 fn show_try(channel: Channel, packet: &[u8], cut: usize)
     requires { ⌜ (length (now packet) ≡ 164) × (24 ≤ cut) ⌝ }
 {
@@ -62,16 +76,7 @@ fn show_try(channel: Channel, packet: &[u8], cut: usize)
     let answer = step.answer;
     let n = packets::text_length(packet);
     let size = n - slices::least(n, cut - 24);
-    show::number(answer.number as usize);
-    show::put(b", ");
-    show::words(answer.number);
-    if all_zero(&out[0..size]) {
-        show::put(b"; no reading came out, the output is zero over ");
-    } else {
-        show::put(b"; the output is not zero over ");
-    }
-    show::number(size);
-    show::put(b" bytes\n");
+    tell(answer.number, all_zero(&out[0..size]), size);
 }
 
 fn flip_bit(channel: Channel, packet: &[u8])

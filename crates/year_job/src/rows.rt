@@ -2,6 +2,7 @@
 ghost use Prim.Native.Nat.{_≤_};
 ghost use mathlib.Core.Path.{_≡_};
 ghost use lib.ListN.{length};
+use dip::Header;
 use packets::Instance;
 
 pub fn head(instance: Instance, start_tag: &[u8]) {
@@ -25,22 +26,34 @@ fn missing(levels: &[i32]) -> usize {
     n
 }
 
+// The columns up to the bytes.
+fn columns(header: Header, gone: usize, bytes: usize) {
+    let name = header.name;
+    show::date(header.year, header.month);
+    show::put(b"  ");
+    show::name(name);
+    show::number_in(header.count as usize, 8);
+    show::number_in(gone, 9);
+    show::number_in(bytes, 7);
+}
+
+fn gone(count: usize, readings: &[u8]) -> usize {
+    let mut levels = [0i32; 31];
+    dip::read_readings(count, readings, &mut levels);
+    missing(&levels)
+}
+
 // What an opened month says: the header in its packet, and its readings.
 pub fn row(packet: &[u8], readings: &[u8], runs: usize)
     requires { ⌜ length (now packet) ≡ 164 ⌝ }
 {
     let read = dip::read_header(&packet[0..24]);
     let header = read.header;
-    let name = header.name;
-    let count = header.count as usize;
-    let mut levels = [0i32; 31];
-    dip::read_readings(count, readings, &mut levels);
-    show::date(header.year, header.month);
-    show::put(b"  ");
-    show::name(name);
-    show::number_in(count, 8);
-    show::number_in(missing(&levels), 9);
-    show::number_in(readings.len(), 7);
+    columns(
+        header,
+        gone(header.count as usize, readings),
+        readings.len(),
+    );
     show::number_in(runs, 6);
     show::put(b"  ");
     show::hex(packets::tag(packet));

@@ -31,6 +31,14 @@ struct Opened {
     same: bool,
 }
 
+// The row of an opened month, and whether its readings are those of the plain packet.
+fn shown(sealed: &[u8], readings: &[u8], plain: &[u8], runs: usize) -> bool
+    requires { ⌜ (length (now sealed) ≡ 164) × (length (now plain) ≡ 164) ⌝ }
+{
+    rows::row(sealed, readings, runs);
+    slices::same(readings, packets::text(plain))
+}
+
 fn open_month(channel: Channel, sealed: &[u8], plain: &[u8]) -> Opened
     requires { ⌜ (length (now sealed) ≡ 164) × (length (now plain) ≡ 164) ⌝ }
 {
@@ -46,11 +54,9 @@ fn open_month(channel: Channel, sealed: &[u8], plain: &[u8]) -> Opened
             same: false,
         };
     }
-    rows::row(sealed, &out[0..n], answer.runs);
-    let same = slices::same(&out[0..n], packets::text(plain));
     Opened {
         channel: next,
-        same,
+        same: shown(sealed, &out[0..n], plain, answer.runs),
     }
 }
 
@@ -70,7 +76,26 @@ fn open_all(channel: Channel, sealed: &[u8], plain: &[u8], months: usize) -> boo
     same
 }
 
-// The second session checks the start tag of the first.
+// The second session, which checks the start tag of the first.
+fn receive(
+    instance: Instance,
+    key: &[u8],
+    nonce: &[u8],
+    tag: &mut [u8],
+    sealed: &[u8],
+    plain: &[u8],
+    months: usize,
+)
+    requires { ⌜ (length (now sealed) ≡ 16400) × (length (now plain) ≡ 16400) × (months ≤ 100) ⌝ }
+{
+    let receiver = packets::start(instance, key, nonce, StartTag::Checked, tag);
+    let second = receiver.channel;
+    rows::head(instance, tag);
+    let same = open_all(second, sealed, plain, months);
+    rows::foot(months, same);
+    attacks::try_all(second, sealed, months);
+}
+
 fn send(instance: Instance, key: &[u8], nonce: &[u8], plain: &[u8], months: usize)
     requires { ⌜ (length (now plain) ≡ 16400) × (months ≤ 100) ⌝ }
 {
@@ -83,12 +108,7 @@ fn send(instance: Instance, key: &[u8], nonce: &[u8], plain: &[u8], months: usiz
     }
     let first = sender.channel;
     seal_all(first, plain, months, &mut sealed);
-    let receiver = packets::start(instance, key, nonce, StartTag::Checked, &mut tag);
-    let second = receiver.channel;
-    rows::head(instance, &tag);
-    let same = open_all(second, &sealed, plain, months);
-    rows::foot(months, same);
-    attacks::try_all(second, &sealed, months);
+    receive(instance, key, nonce, &mut tag, &sealed, plain, months);
 }
 
 pub fn run(instance: Instance, text: &[u8], key: &[u8], nonce: &[u8]) {

@@ -1,3 +1,4 @@
+-- The laws of `piston`, for its proofs and for the crates above.
 pub mod Block
 pub mod Lane
 pub mod Turns

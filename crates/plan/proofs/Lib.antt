@@ -1,3 +1,4 @@
+-- The laws of `plan`, for its proofs and for the crates above.
 pub mod Knots
 pub mod Opens
 pub mod Step

@@ -1,2 +1,3 @@
+-- The laws of `slices`, for its proofs and for the crates above.
 pub mod Agree
 pub mod Parts

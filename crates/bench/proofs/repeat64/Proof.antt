@@ -1,3 +1,4 @@
+-- The proof that `bench::repeat64` meets its contract.
 use mathlib.Core.Path.{_≡_, ap}
 use mathlib.Core.List.{List}
 use Prim.Native.Nat.{ℕ, _-_}

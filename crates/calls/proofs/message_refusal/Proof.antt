@@ -1,3 +1,4 @@
+-- The proof that `calls::message_refusal` meets its contract.
 use mathlib.Core.Path.{refl}
 use borrow.Author.Needs.{needs}
 use Rattle.calls.proofs.message_refusal.Statement.{statement}

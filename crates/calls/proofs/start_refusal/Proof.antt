@@ -1,3 +1,4 @@
+-- The proof that `calls::start_refusal` meets its contract.
 use mathlib.Core.Path.{refl}
 use borrow.Author.Needs.{needs}
 use Rattle.calls.proofs.start_refusal.Statement.{statement}

@@ -1,3 +1,4 @@
+-- The proof that `endian::load_part32` meets its contract.
 use borrow.Author.Needs.{needs}
 use Rattle.endian.proofs.Laws.{few-lt}
 use Rattle.endian.proofs.load_part32.Statement.{statement}

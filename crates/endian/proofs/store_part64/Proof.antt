@@ -1,3 +1,4 @@
+-- The proof that `endian::store_part64` meets its contract.
 use mathlib.Core.Path.{_≡_, refl, sym, _∙_}
 use mathlib.Core.List.{_++_, append-nil}
 use Prim.Native.Nat.{_*_, _/_, _-_, _≤_, _^_}

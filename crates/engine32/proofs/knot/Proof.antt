@@ -1,3 +1,4 @@
+-- The proof that `engine32::knot` meets its contract.
 use mathlib.Core.Path.{ap}
 use native.Mathlib.Omega.{arith}
 use lib.ListN.{length, length-take}

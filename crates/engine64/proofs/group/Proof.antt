@@ -1,3 +1,4 @@
+-- The proof that `engine64::group` meets its contract.
 use mathlib.Core.Path.{_≡_, refl}
 use native.Mathlib.Omega.{arith}
 use lib.ListN.{length}

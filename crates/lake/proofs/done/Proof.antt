@@ -1,3 +1,4 @@
+-- The proof that `lake::done` meets its contract.
 use mathlib.Core.Path.{refl}
 use borrow.Author.Needs.{needs}
 use Rattle.lake.proofs.done.Statement.{statement}

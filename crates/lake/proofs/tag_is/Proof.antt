@@ -1,3 +1,4 @@
+-- The proof that `lake::tag_is` meets its contract.
 use borrow.Author.Needs.{needs}
 use Rattle.lake.proofs.tag_is.Statement.{statement}
 use Rattle.lake.proofs.tag_is.Tie as tie

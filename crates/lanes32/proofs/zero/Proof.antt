@@ -1,3 +1,4 @@
+-- The proof that `lanes32::zero` meets its contract.
 use mathlib.Core.Path.{refl}
 use Rattle.endian.specs.Little.{toBytes}
 use Rattle.keccak.specs.State.{bytes}

@@ -1,3 +1,4 @@
+-- The proof that `lanes64::stream_whole` meets its contract.
 use mathlib.Core.Path.{_≡_, refl, sym}
 use mathlib.Core.List.{_++_}
 use Prim.Native.Nat.{_+_, _*_, _-_, _≤_, _^_}

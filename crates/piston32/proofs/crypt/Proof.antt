@@ -1,3 +1,4 @@
+-- The proof that `piston32::crypt` meets its contract.
 use borrow.Author.Needs.{needs}
 use Rattle.piston32.proofs.crypt.Statement.{statement}
 use Rattle.piston32.proofs.crypt.Tie as tie

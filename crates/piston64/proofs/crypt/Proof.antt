@@ -1,3 +1,4 @@
+-- The proof that `piston64::crypt` meets its contract.
 use borrow.Author.Needs.{needs}
 use Rattle.piston64.proofs.crypt.Statement.{statement}
 use Rattle.piston64.proofs.crypt.Tie as tie

@@ -1,3 +1,4 @@
+-- The proof that `piston64::inject` meets its contract.
 use mathlib.Core.Path.{refl}
 use native.Mathlib.Omega.{arith}
 use Rattle.keccak.specs.State.{bytes}

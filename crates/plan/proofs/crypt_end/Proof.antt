@@ -1,3 +1,4 @@
+-- The proof that `plan::crypt_end` meets its contract.
 use Rattle.plan.proofs.Step.{crypt-end-some}
 use borrow.Author.Needs.{needs}
 use Rattle.plan.proofs.crypt_end.Statement.{statement}

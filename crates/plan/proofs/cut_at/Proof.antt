@@ -1,3 +1,4 @@
+-- The proof that `plan::cut_at` meets its contract.
 use Prim.Native.Nat.{_-_}
 use native.Mathlib.Omega.{arith}
 use Rattle.plan.proofs.Walk.{from-le}

@@ -1,3 +1,4 @@
+-- The proof that `plan::inject_start` meets its contract.
 use borrow.Author.Needs.{needs}
 use Rattle.plan.proofs.Walk.{from-some}
 use Rattle.plan.proofs.inject_start.Statement.{statement}

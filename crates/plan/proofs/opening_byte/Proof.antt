@@ -1,3 +1,4 @@
+-- The proof that `plan::opening_byte` meets its contract.
 use native.Mathlib.Omega.{arith}
 use Rattle.plan.proofs.Opens.{at-key, at-one, at-zeros, at-nonce, at-pistons, at-end}
 use borrow.Author.Needs.{needs}

@@ -1,3 +1,4 @@
+-- The proof that `river::done` meets its contract.
 use mathlib.Core.Path.{refl}
 use borrow.Author.Needs.{needs}
 use Rattle.river.proofs.done.Statement.{statement}

@@ -1,3 +1,4 @@
+-- The proof that `river::tag_is` meets its contract.
 use borrow.Author.Needs.{needs}
 use Rattle.river.proofs.tag_is.Statement.{statement}
 use Rattle.river.proofs.tag_is.Tie as tie

@@ -1,3 +1,4 @@
+-- The proof that `river::unstarted` meets its contract.
 use mathlib.Core.Path.{refl}
 use Prim.Native.Nat.{ℕ}
 use lib.ListN.{getD}

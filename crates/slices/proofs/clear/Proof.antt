@@ -1,3 +1,4 @@
+-- The proof that `slices::clear` meets its contract.
 use mathlib.Core.Path.{_≡_, _∙_}
 use mathlib.Core.List.{_++_, append-nil}
 use Prim.Native.Nat.{_≤_, _-_}

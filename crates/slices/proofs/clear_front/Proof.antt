@@ -1,3 +1,4 @@
+-- The proof that `slices::clear_front` meets its contract.
 use mathlib.Core.Path.{refl, sym}
 use lib.Seq.{length-take-le}
 use borrow.Author.Needs.{needs}

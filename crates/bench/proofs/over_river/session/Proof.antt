@@ -1,3 +1,4 @@
+-- The proof that `bench::over_river::session` meets its contract.
 use mathlib.Core.Path.{_≡_, ap}
 use Rattle.motorist.specs.Piston.{Bytes}
 use Rattle.river.specs.declared.Turn.{Turn}

@@ -66,8 +66,8 @@ def refusal(number):
 
 
 def first_refusal(cases):
-    """The first number in number order whose case applies, else 0."""
-    return min((number for number, applies in cases if applies), default=DONE)
+    """The number of the first case, in the order in which they are looked at, that applies, else 0."""
+    return next((number for number, applies in cases if applies), DONE)
 
 
 def state_bytes(instance, record):

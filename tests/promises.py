@@ -1,5 +1,5 @@
-"""docs/PROMISES.md names only what there is: files, theorems, contracts and must-fail edits; and it names every edit.
-python3 tests/promises.py leaves with 1 and says what is missing."""
+"""docs/PROMISES.md names only what there is: files, theorems, contracts and must-fail edits; it names every edit; and it prints the contract of
+every public call as it stands in the code, where none has a `requires`. python3 tests/promises.py leaves with 1 and says what is missing."""
 import pathlib
 import re
 import sys
@@ -26,6 +26,26 @@ def edit_named(word, crate):
     return (crate, word) if crate and (CRATES / crate / "must-fail" / f"{word}.edit").exists() else None
 
 
+PUBLIC = ["lake", "river", "keccak64", "keccak32", "dip_header", "dip_readings"]
+INNER = {"keccak64::permute12", "keccak32::permute12"}
+
+
+def contracts():
+    """Of every function that a public crate offers: its name, and what stands between its arguments and its body."""
+    for crate in PUBLIC:
+        for found in re.finditer(r"^pub fn (\w+)\(.*?^\{", texts(f"{crate}/src/**/*.rt"), re.M | re.S):
+            yield f"{crate}::{found[1]}", found[0]
+
+
+def unprinted(page):
+    """The public calls whose contract the page does not print, or which ask something of their caller."""
+    for call, text in contracts():
+        row = next((line for line in page.splitlines() if line.startswith(f"| `{call}` |")), "")
+        printed = re.search(r"\| `[^`]+` \| `([^`]+)` \|", row)
+        if call not in INNER and not (printed and printed[1] in text and "requires" not in text):
+            yield f"contract not printed as it stands: {call}"
+
+
 def main():
     page = pathlib.Path("docs/PROMISES.md").read_text()
     laws, code = texts("*/specs/**/*.antt", "*/proofs/**/*.antt"), texts("*/src/**/*.rt")
@@ -39,6 +59,8 @@ def main():
                 crate = edit[0]
                 edits.add(edit)
                 there = (CRATES / crate / "must-fail" / f"{edit[1]}.edit").exists()
+            elif word.startswith("tests/"):
+                there = pathlib.Path(word).exists()
             elif re.fullmatch(rf"\w+/{PLACES}(/[\w/.-]+)?", word):
                 there = (CRATES / word).exists()
             elif word.endswith(".antt"):
@@ -48,9 +70,10 @@ def main():
             elif "::" in word:
                 there = re.search(rf"fn {word.split('::')[-1]}\(", code)
             else:
-                there = re.search(rf"(^|\s){re.escape(word)} :", laws, re.M) or re.search(rf"\b{re.escape(word)}\b", code)
+                there = re.search(rf"(^|\s){re.escape(word)} :|^ *(pub )?record {re.escape(word)} ", laws, re.M) or re.search(rf"\b{re.escape(word)}\b", code)
             if not there:
                 missing.append(f"no such thing: {word}")
+    missing += unprinted(page)
     for file in sorted(CRATES.glob("*/must-fail/*.edit")):
         if (file.parts[1], file.stem) not in edits:
             missing.append(f"not named: {file}")

@@ -26,18 +26,27 @@ def bare(text):
     return re.sub(r",(?=[)\]}])", "", re.sub(r"\s+", "", text))
 
 
+def files(crate):
+    return sorted(f for f in (pathlib.Path("crates") / crate).rglob("*") if f.is_file() and "must-fail" not in f.parts)
+
+
 def pairs():
     crates = pathlib.Path("crates")
     for wide, narrow in TWINS:
-        for file in sorted((crates / wide).rglob("*")):
-            if file.is_file() and "must-fail" not in file.parts:
-                yield file, crates / narrow / str(file.relative_to(crates / wide)).replace("Lake", "River").replace("lake", "river")
+        for file in files(wide):
+            yield file, crates / narrow / str(file.relative_to(crates / wide)).replace("Lake", "River").replace("lake", "river")
     for wide, narrow in FILES:
         yield crates / wide, crates / narrow
 
 
+def alone():
+    """The files at 32 bits that have no twin."""
+    twins = {narrow for _, narrow in pairs()}
+    return [str(f) for _, crate in TWINS for f in files(crate) if f not in twins]
+
+
 def main():
-    count, wrong = 0, []
+    count, wrong = 0, alone()
     for wide, narrow in pairs():
         count += 1
         if not narrow.exists() or bare(at_32_bits(wide.read_text())) != bare(narrow.read_text()):

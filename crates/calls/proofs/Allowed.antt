@@ -8,32 +8,33 @@ use borrow.Author.Tests.{ltb-false, le-ltb, leb-true, le-leb, eqb-true, eq-eqb, 
 use lib.Dec.{leb, eqb}
 use Rattle.table.specs.Refusals.{None}
 use Rattle.table.specs.Choices.{asked, riding}
+use Rattle.table.specs.declared.Phase.{Phase}
 use Rattle.table.specs.declared.StartTag.{StartTag}
 use Rattle.slices.proofs.Agree.{and-both}
 use Rattle.motorist.specs.Instance.{Instance, Sound, textRate, tagLength}
-use Rattle.calls.specs.Session.{Session, live}
+use Rattle.calls.specs.Session.{live}
 use Rattle.calls.specs.Outcome.{messageRules, startRules}
 
--- a message of t bytes of text and m of metadata, with an output of d bytes and a tag of g
-pub record Allowed (x : Session) (t m d g : ℕ) : Type 0 where
-  pub session : live x ≡ true
+-- a message on a session of this phase and text start, of t bytes of text and m of metadata, with an output of d bytes and a tag of g
+pub record Allowed (phase : Phase) (at t m d g : ℕ) : Type 0 where
+  pub session : live phase at ≡ true
   pub text : t ≤ 65535
   pub meta : m ≤ 65535
   pub output : t ≤ d
   pub tag : g ≡ tagLength
 
-pub allowed : (x : Session) (t m d g : ℕ) → None (messageRules x t m d g) → Allowed x t m d g
-allowed x t m d g h =
+pub allowed : (phase : Phase) (at t m d g : ℕ) → None (messageRules phase at t m d g) → Allowed phase at t m d g
+allowed phase at t m d g h =
     record {
-      session = not-false (live x) (h .0);
+      session = not-false (live phase at) (h .0);
       text = ltb-false 65535 t (h .1 .0);
       meta = ltb-false 65535 m (h .1 .1 .0);
       output = ltb-false d t (h .1 .1 .1 .0);
       tag = eqb-true g tagLength (not-false (eqb g tagLength) (h .1 .1 .1 .1 .0));
     }
 
-pub none-refused : (x : Session) (t m d g : ℕ) → Allowed x t m d g → None (messageRules x t m d g)
-none-refused x t m d g a =
+pub none-refused : (phase : Phase) (at t m d g : ℕ) → Allowed phase at t m d g → None (messageRules phase at t m d g)
+none-refused phase at t m d g a =
     (ap not (a .session), (le-ltb 65535 t (a .text), (le-ltb 65535 m (a .meta), (le-ltb d t (a .output), (ap not (eq-eqb g tagLength (a .tag)), tt)))))
 
 -- a start with a key of k bytes, a nonce of n and a tag buffer of g
@@ -66,25 +67,25 @@ either : (a b : Bool) → (a || b) ≡ true → (a ≡ true) ⊎ (b ≡ true)
 either true b e = inl refl
 either false b e = inr e
 
-pub live-fits : (i : Instance) → Sound i → (x : Session) → live x ≡ true → x .at < textRate i
-live-fits i ok x e = go (either (eqb (x .at) 0) (eqb (x .at) tagLength) (and-both (riding (x .phase)) _ e .1))
+pub live-fits : (i : Instance) → Sound i → (phase : Phase) (at : ℕ) → live phase at ≡ true → at < textRate i
+live-fits i ok phase at e = go (either (eqb at 0) (eqb at tagLength) (and-both (riding phase) _ e .1))
   where
-    go : (eqb (x .at) 0 ≡ true) ⊎ (eqb (x .at) tagLength ≡ true) → x .at < textRate i
-    go (inl h) = let z : x .at ≡ 0 = eqb-true (x .at) 0 h in omega (arith, ok .tagFits)
-    go (inr h) = let z : x .at ≡ tagLength = eqb-true (x .at) tagLength h in omega (arith, ok .tagFits)
+    go : (eqb at 0 ≡ true) ⊎ (eqb at tagLength ≡ true) → at < textRate i
+    go (inl h) = let z : at ≡ 0 = eqb-true at 0 h in omega (arith, ok .tagFits)
+    go (inr h) = let z : at ≡ tagLength = eqb-true at tagLength h in omega (arith, ok .tagFits)
 
 -- one with another text start may not be used
-pub elsewhere : (x : Session) → (x .at ≡ 0 → ⊥) → (x .at ≡ tagLength → ⊥) → live x ≡ false
-elsewhere x p q = rw (ne-eqb (x .at) 0 p, ne-eqb (x .at) tagLength q) (go (riding (x .phase)))
+pub elsewhere : (phase : Phase) (at : ℕ) → (at ≡ 0 → ⊥) → (at ≡ tagLength → ⊥) → live phase at ≡ false
+elsewhere phase at p q = rw (ne-eqb at 0 p, ne-eqb at tagLength q) (go (riding phase))
   where
     go : (b : Bool) → (b && false) ≡ false
     go true = refl
     go false = refl
 
 -- and is the first byte of a lane of w bytes
-pub live-lane : (w : ℕ) → 0 % w ≡ 0 → tagLength % w ≡ 0 → (x : Session) → live x ≡ true → x .at % w ≡ 0
-live-lane w z l x e = go (either (eqb (x .at) 0) (eqb (x .at) tagLength) (and-both (riding (x .phase)) _ e .1))
+pub live-lane : (w : ℕ) → 0 % w ≡ 0 → tagLength % w ≡ 0 → (phase : Phase) (at : ℕ) → live phase at ≡ true → at % w ≡ 0
+live-lane w z l phase at e = go (either (eqb at 0) (eqb at tagLength) (and-both (riding phase) _ e .1))
   where
-    go : (eqb (x .at) 0 ≡ true) ⊎ (eqb (x .at) tagLength ≡ true) → x .at % w ≡ 0
-    go (inl h) = rw (eqb-true (x .at) 0 h) z
-    go (inr h) = rw (eqb-true (x .at) tagLength h) l
+    go : (eqb at 0 ≡ true) ⊎ (eqb at tagLength ≡ true) → at % w ≡ 0
+    go (inl h) = rw (eqb-true at 0 h) z
+    go (inr h) = rw (eqb-true at tagLength h) l

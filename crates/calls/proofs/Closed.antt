@@ -1,62 +1,66 @@
--- Demand 1, to its end: a session that was never started, or that a differing tag has broken, is closed. Whatever wraps and unwraps are tried on it,
--- each answers 1, leaves that very session, and leaves every buffer as it was.
-use mathlib.Core.Path.{_≡_, refl, ap}
+-- Demand 1, to its end: a session that was never started, or whose tag differed, is closed. Whatever wraps and unwraps are tried on it,
+-- each answers 1, leaves that very record, and leaves every buffer as it was. And the demand as a whole.
+use mathlib.Core.Path.{_≡_, refl, sym, ap, subst, _∙_}
 use mathlib.Core.Bool.{Bool, true, false}
 use mathlib.Core.List.{List, [], _∷_, map}
 use native.Mathlib.Omega.{arith}
-use Rattle.table.specs.Numbers.{not-started, tag-differs}
+use Rattle.table.specs.Numbers.{tag-differs}
+use Rattle.table.proofs.Exact.{first-apart}
 use Rattle.motorist.specs.Instance.{Instance, tagLength}
 use Rattle.motorist.specs.Piston.{Bytes}
-use Rattle.calls.specs.Session.{Session, live, same, broken, unstarted, failed, after}
-use Rattle.calls.specs.Outcome.{Outcome, refused}
-use Rattle.calls.specs.Chain.{Call, Opening, callOf, outcomes, endOf, openingOf, begins}
+use Rattle.calls.specs.Session.{Records, Serves, live}
+use Rattle.calls.specs.Outcome.{Outcome, wrapRules}
+use Rattle.calls.specs.Chain.{Call, callOf, outcomes, endOf}
+use Rattle.calls.specs.Promises.{turnedAway, Closed, Total}
 use Rattle.calls.proofs.Allowed.{elsewhere}
-use Rattle.table.proofs.Exact.{first-below}
 use Rattle.calls.proofs.OneCall.{either, call-away}
-use Rattle.calls.proofs.Refusals.{wrapRules, wrap-number, unwrap-leaves, start-leaves}
+use Rattle.calls.proofs.Refusals.{wrap-number, wrap-exactly, unwrap-exactly, start-exactly, wrap-leaves, unwrap-leaves, start-leaves}
 
--- a call that is refused as on a session that was not started: 1, nothing written, no run, session and buffers as they were
-abbrev pub turnedAway : Call → Outcome
-turnedAway c = refused not-started same (c .out) (c .tag)
-
-module _ (i : Instance) (f : Bytes → Bytes) where
-  pub record Closed (x : Session) : Type 0 where
-    pub answers : (cs : List Call) → outcomes i f x cs ≡ map turnedAway cs
-    pub session : (cs : List Call) → endOf i f x cs ≡ x
-
-  closed : (x : Session) → live x ≡ false → Closed x
+module _ {R : Type 0} (K : Records R) (i : Instance) (f : Bytes → Bytes) where
+  closed : (x : R) → live (K .shows x .phase) (K .shows x .at) ≡ false → Closed K i f x
   closed x e = record { answers = all; session = still }
     where
-      all : (cs : List Call) → outcomes i f x cs ≡ map turnedAway cs
+      all : (cs : List Call) → outcomes K i f x cs ≡ map (turnedAway x) cs
       all [] = refl
-      all (c ∷ cs) = rw (call-away i f x c e, all cs)
+      all (c ∷ cs) = rw (call-away K i f x c e, all cs)
 
-      still : (cs : List Call) → endOf i f x cs ≡ x
+      still : (cs : List Call) → endOf K i f x cs ≡ x
       still [] = refl
-      still (c ∷ cs) = rw (call-away i f x c e) (still cs)
-
-  pub unstarted-closed : Closed (unstarted i)
-  unstarted-closed = closed (unstarted i) refl
-
-  pub failed-closed : Closed (failed i)
-  failed-closed = closed (failed i) refl
+      still (c ∷ cs) = rw (call-away K i f x c e) (still cs)
 
   -- a session with a text start that there is not
-  pub elsewhere-closed : (x : Session) → (x .at ≡ 0 → ⊥) → (x .at ≡ tagLength → ⊥) → Closed x
-  elsewhere-closed x p q = closed x (elsewhere x p q)
+  elsewhere-closed : (x : R) → (K .shows x .at ≡ 0 → ⊥) → (K .shows x .at ≡ tagLength → ⊥) → Closed K i f x
+  elsewhere-closed x p q = closed x (elsewhere (K .shows x .phase) (K .shows x .at) p q)
 
   -- ---- after a refusal by the tag: of a call (which then was an unwrap), or of a start
-  call-broken : (x : Session) (c : Call) → callOf i f x c .answer .number ≡ tag-differs → callOf i f x c .session ≡ broken
-  call-broken x c = go (c .decrypt)
+  call-fails : (x : R) (c : Call) → callOf K i f x c .answer .number ≡ tag-differs → callOf K i f x c .session ≡ K .failed
+  call-fails x c = go (c .decrypt)
     where
-      go : (d : Bool) → callOf i f x (either c d) .answer .number ≡ tag-differs → callOf i f x (either c d) .session ≡ broken
-      go true e = ap (λ (o : Outcome). o .session) (unwrap-leaves i f x (c .message) (c .tag) (c .out) .differs e)
+      go : (d : Bool) → callOf K i f x (either c d) .answer .number ≡ tag-differs → callOf K i f x (either c d) .session ≡ K .failed
+      go true e = ap (λ (o : Outcome R). o .session) (unwrap-leaves K i f x (c .message) (c .tag) (c .out) .differs e)
       go false e =
-          let l = first-below tag-differs (wrapRules x (c .message) (c .out) (c .tag)) (omega arith) (omega arith) in
-          absurd (omega (arith, wrap-number i f x (c .message) (c .out) (c .tag)))
+          absurd (first-apart tag-differs (wrapRules (K .shows x) (c .message) (c .out) (c .tag)) (omega arith) (omega arith)
+          (sym (wrap-number K i f x (c .message) (c .out) (c .tag)) ∙ e))
 
-  pub call-closes : (x : Session) (c : Call) → callOf i f x c .answer .number ≡ tag-differs → Closed (after i x (callOf i f x c .session))
-  call-closes x c e = rw (call-broken x c e) failed-closed
+  module _ (serves : Serves K i f) where
+    unstarted-closed : Closed K i f (K .unstarted)
+    unstarted-closed = closed (K .unstarted) (rw (serves .unstarted))
 
-  pub start-closes : (a : Opening) → openingOf i f a .answer .number ≡ tag-differs → Closed (begins i f a)
-  start-closes a e = rw (start-leaves i f a .differs e) failed-closed
+    failed-closed : Closed K i f (K .failed)
+    failed-closed = closed (K .failed) (rw (serves .failed))
+
+    -- ---- demand 1
+    pub total : Total K i f
+    total =
+        record {
+          wrap-exactly = wrap-exactly K i f;
+          unwrap-exactly = unwrap-exactly K i f;
+          start-exactly = start-exactly K i f;
+          wrap-leaves = wrap-leaves K i f;
+          unwrap-leaves = unwrap-leaves K i f;
+          start-leaves = start-leaves K i f;
+          call-closes = λ x c e. rw (call-fails x c e) failed-closed;
+          start-closes = λ a e. subst (Closed K i f) (sym (ap (λ (o : Outcome R). o .session) (start-leaves K i f a .differs e))) failed-closed;
+          unstarted-closed = unstarted-closed;
+          elsewhere-closed = elsewhere-closed;
+        }

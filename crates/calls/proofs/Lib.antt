@@ -1,13 +1,11 @@
--- The promises over the calls, over any instance of one Piston and any f. In the order of the demands: Refusals and Closed, Right and Partner, Story.
--- Words has what they share; InOrder, Allowed, OneCall and Chains have the laws they rest on; Meets is what the code of an instance cites.
+-- The promises over the calls, proved over any instance of one Piston, any f and any kind of record. In the order of the demands: Refusals and Closed,
+-- Right and Partner, Story. Allowed, OneCall and Chains have the laws they rest on; Meets is what the code of an instance cites.
 pub mod Allowed
 pub mod Chains
 pub mod Closed
-pub mod InOrder
 pub mod Meets
 pub mod OneCall
 pub mod Partner
 pub mod Refusals
 pub mod Right
 pub mod Story
-pub mod Words

@@ -3,7 +3,7 @@
 use mathlib.Core.Path.{_≡_, refl, sym, ap, _∙_}
 use mathlib.Core.Bool.{Bool, true, false}
 use mathlib.Core.List.{List, [], _∷_, _++_}
-use Prim.Native.Nat.{ℕ, zero, suc, _*_, _%_, _^_, _≤_, _<_}
+use Prim.Native.Nat.{ℕ, _*_, _^_, _<_}
 use native.Mathlib.Omega.{arith}
 use lib.ListN.{length, getD, take, drop, replicate}
 use lib.Seq.{drop-at}
@@ -11,110 +11,106 @@ use Rattle.motorist.proofs.Rides.{message-output}
 use Rattle.keccak.specs.State.{bytes, lanesFrom}
 use Rattle.keccak.proofs.State.{lanes-bytes}
 use Rattle.table.specs.Numbers.{done, tag-differs}
-use Rattle.table.specs.Refusals.{first}
+use Rattle.table.specs.Refusals.{first, ifDone}
 use Rattle.table.specs.Choices.{asked}
+use Rattle.table.specs.declared.Phase.{Phase}
 use Rattle.table.specs.declared.StartTag.{StartTag}
 use Rattle.table.specs.declared.StartTag.the-variants.{None, Produced, Checked}
-use Rattle.table.proofs.Exact.{exact}
+use Rattle.table.proofs.Exact.{exact, not-done}
 use Rattle.slices.specs.Same.{sameBytes}
 use Rattle.motorist.specs.Instance.{Instance, Sound, tagLength}
 use Rattle.motorist.specs.Piston.{Bytes}
-use Rattle.motorist.specs.Engine.{Ride, States}
-use Rattle.motorist.specs.Motorist.{Start, Message, taken, start, message}
-use Rattle.calls.specs.Session.{Session, same, none, broken, rides}
+use Rattle.motorist.specs.Engine.{Ride}
+use Rattle.motorist.specs.Motorist.{Message, start, message}
+use Rattle.calls.specs.Session.{View, Records}
 use Rattle.calls.proofs.Allowed.{Allowed, AllowedStart, allowed, allowed-start, live-fits}
-use Rattle.calls.specs.Outcome.{Outcome, answer, refused, unless, messageRules, startRules, wrapped, unwrapped, begun, checked, started, wrapOf, unwrapOf, startOf}
+use Rattle.calls.specs.Outcome.{answer, refused, messageRules, startRules, wrapRules, openRules, started, wrapOf, unwrapOf, startOf}
 
 -- lanes are those of their bytes, w bytes a lane
 pub lanes-back : (w n : ℕ) (l : List ℕ) → length l ≡ n → ((i : ℕ) → getD l i 0 < 2 ^ (8 * w)) → lanesFrom w n (bytes w l) ≡ l
 lanes-back w n l e h = rw (← e) (lanes-bytes w l h)
 
 -- ---- where no refusal was found
-pub message-allowed : (x : Session) (t m d g why : ℕ) → why ≡ first (messageRules x t m d g) → why ≡ 0 → Allowed x t m d g
-message-allowed x t m d g why e z = allowed x t m d g (exact (messageRules x t m d g) (omega arith) .done .0 (sym e ∙ z))
+pub message-allowed : (phase : Phase) (at t m d g why : ℕ) → why ≡ first (messageRules phase at t m d g) → why ≡ 0 → Allowed phase at t m d g
+message-allowed phase at t m d g why e z = allowed phase at t m d g (exact (messageRules phase at t m d g) (omega arith) .done .0 (sym e ∙ z))
 
 pub start-allowed : (k n : ℕ) (choice : StartTag) (g why : ℕ) → why ≡ first (startRules k n choice g) → why ≡ 0 → AllowedStart k n choice g
 start-allowed k n choice g why e z = allowed-start k n choice g (exact (startRules k n choice g) (omega arith) .done .0 (sym e ∙ z))
 
--- ---- a refusal
-unless-refused : (why : ℕ) (r : ℕ → Outcome) (o : Outcome) → (why ≡ 0 → ⊥) → unless why r o ≡ r why
-unless-refused zero r o n = absurd (n refl)
-unless-refused (suc k) r o n = refl
+-- ---- what is done counts where no refusal was found
+if-done : {A : Type 0} (why : ℕ) (new old : A) → why ≡ 0 → ifDone why new old ≡ new
+if-done why new old e = rw e refl
 
-unless-done : (why : ℕ) (r : ℕ → Outcome) (o : Outcome) → why ≡ 0 → unless why r o ≡ o
-unless-done why r o e = rw e refl
+module _ {R : Type 0} (K : Records R) (i : Instance) (f : Bytes → Bytes) (x : R) (m : Message) (out g : Bytes) (why : ℕ)
+    (found : why ≡ first (wrapRules (K .shows x) m out g)) where
+  abbrev v : View
+  v = K .shows x
 
--- the first of the states that a ride leaves
-first-is : (s : Bytes) (ss : States) → s ∷ [] ≡ ss → getD ss 0 [] ≡ s
-first-is s ss e = rw (← e) refl
-
-module _ (i : Instance) (f : Bytes → Bytes) (x : Session) (m : Message) (out g : Bytes) (why : ℕ)
-    (found : why ≡ first (messageRules x (length (m .text)) (length (m .meta)) (length out) (length g))) where
-  pub wrap-refused : (why ≡ 0 → ⊥) → wrapOf i f x m out g ≡ refused why same out g
+  pub wrap-refused : (why ≡ 0 → ⊥) → wrapOf K i f x m out g ≡ refused why x out g
   unfolding wrapOf
-  wrap-refused n = rw (← found) (unless-refused why _ _ n)
+  wrap-refused n = rw (← found) (not-done why _ _ n)
 
-  pub unwrap-refused : (why ≡ 0 → ⊥) → unwrapOf i f x m g out ≡ refused why same out g
+  pub unwrap-refused : (why ≡ 0 → ⊥) → unwrapOf K i f x m g out ≡ refused why x out g
   unfolding unwrapOf
-  unwrap-refused n = rw (← found) (unless-refused why _ _ n)
+  unwrap-refused n = rw (← found) (not-done why _ _ n)
 
   -- ---- a message done: the state s, the runs n, the output o
   module _ (ok : why ≡ 0) (s : Bytes) (n : ℕ) (o : Bytes) where
-    pub wrap-done : (t : Bytes) → (let r : Ride = message i f false (x .state ∷ []) (x .at) m in
+    pub wrap-done : (t : Bytes) → (let r : Ride = message i f false (v .state ∷ []) (v .at) m in
         (s ∷ [] ≡ r .states) → (o ≡ r .output ++ drop (length (m .text)) out) → (n ≡ length (r .blocks)) → t ≡ take (length g) s
-        → wrapOf i f x m out g ≡ record { answer = answer done (length (m .text)) n; session = rides s tagLength; out = o; tag = t })
+        → wrapOf K i f x m out g ≡ record { answer = answer done (length (m .text)) n; session = K .riding s tagLength; out = o; tag = t })
     unfolding wrapOf
     wrap-done t hs ho hn ht =
-        let k = message-allowed x (length (m .text)) (length (m .meta)) (length out) (length g) why found ok in
+        let k = message-allowed (v .phase) (v .at) (length (m .text)) (length (m .meta)) (length out) (length g) why found ok in
         let t′ : t ≡ take tagLength s = rw (k .tag) at ht in
-        rw (← found, unless-done why _ _ ok, t′, ho, hn, ← hs) refl
+        rw (← found, if-done why _ _ ok, t′, ho, hn, ← hs) refl
 
-    pub unwrap-done : (let r : Ride = message i f true (x .state ∷ []) (x .at) m in
+    pub unwrap-done : (let r : Ride = message i f true (v .state ∷ []) (v .at) m in
         (s ∷ [] ≡ r .states) → (o ≡ r .output ++ drop (length (m .text)) out) → (n ≡ length (r .blocks)) → sameBytes (take tagLength s) g ≡ true
-        → unwrapOf i f x m g out ≡ record { answer = answer done (length (m .text)) n; session = rides s tagLength; out = o; tag = g })
+        → unwrapOf K i f x m g out ≡ record { answer = answer done (length (m .text)) n; session = K .riding s tagLength; out = o; tag = g })
     unfolding unwrapOf
-    unwrap-done hs ho hn ht = rw (← found, unless-done why _ _ ok, ho, hn, ← hs, ht) refl
+    unwrap-done hs ho hn ht = rw (← found, if-done why _ _ ok, ho, hn, ← hs, ht) refl
 
   -- a cryptogram with a wrong tag: what came out, d, is cleared
-  pub unwrap-wrong : why ≡ 0 → Sound i → (s d o : Bytes) → (let r : Ride = message i f true (x .state ∷ []) (x .at) m in
+  pub unwrap-wrong : why ≡ 0 → Sound i → (s d o : Bytes) → (let r : Ride = message i f true (v .state ∷ []) (v .at) m in
       (s ∷ [] ≡ r .states) → (d ≡ r .output ++ drop (length (m .text)) out) → sameBytes (take tagLength s) g ≡ false → o ≡ replicate (length (m .text)) 0 ++ drop (length (m .text)) d
-      → unwrapOf i f x m g out ≡ record { answer = answer tag-differs 0 0; session = broken; out = o; tag = g })
+      → unwrapOf K i f x m g out ≡ record { answer = answer tag-differs 0 0; session = K .failed; out = o; tag = g })
   unfolding unwrapOf
   unwrap-wrong ok sound s d o hs hd ht ho =
-      let k = message-allowed x (length (m .text)) (length (m .meta)) (length out) (length g) why found ok in
-      let l = message-output i f sound true (x .state ∷ []) (x .at) (live-fits i sound x (k .session)) m in
-      let e : drop (length (m .text)) d ≡ drop (length (m .text)) out = ap (drop (length (m .text))) hd ∙ drop-at (message i f true (x .state ∷ []) (x .at) m .output) (drop (length (m .text)) out) (length (m .text)) l in
-      rw (← found, unless-done why _ _ ok, ho, e, ← hs, ht) refl
+      let k = message-allowed (v .phase) (v .at) (length (m .text)) (length (m .meta)) (length out) (length g) why found ok in
+      let l = message-output i f sound true (v .state ∷ []) (v .at) (live-fits i sound (v .phase) (v .at) (k .session)) m in
+      let e : drop (length (m .text)) d ≡ drop (length (m .text)) out = ap (drop (length (m .text))) hd ∙ drop-at (message i f true (v .state ∷ []) (v .at) m .output) (drop (length (m .text)) out) (length (m .text)) l in
+      rw (← found, if-done why _ _ ok, ho, e, ← hs, ht) refl
 
 -- ---- a start
-module _ (i : Instance) (f : Bytes → Bytes) (key nonce : Bytes) (forgets : Bool) (choice : StartTag) (g : Bytes) (why : ℕ)
-    (found : why ≡ first (startRules (length key) (length nonce) choice (length g))) where
-  pub start-refused : (why ≡ 0 → ⊥) → startOf i f key nonce forgets choice g ≡ refused why none [] g
+module _ {R : Type 0} (K : Records R) (i : Instance) (f : Bytes → Bytes) (key nonce : Bytes) (forgets : Bool) (choice : StartTag) (g : Bytes) (why : ℕ)
+    (found : why ≡ first (openRules key nonce choice g)) where
+  pub start-refused : (why ≡ 0 → ⊥) → startOf K i f key nonce forgets choice g ≡ refused why (K .unstarted) [] g
   unfolding startOf
-  start-refused n = rw (← found) (unless-refused why _ _ n)
+  start-refused n = rw (← found) (not-done why _ _ n)
 
   module _ (ok : why ≡ 0) (s : Bytes) (n : ℕ) where
     abbrev ride : Ride
     ride = start i f (record { key = key; nonce = nonce; tagged = asked choice; forgets = forgets })
 
-    start-is : startOf i f key nonce forgets choice g ≡ started choice ride g
+    start-is : startOf K i f key nonce forgets choice g ≡ started K choice ride g
     unfolding startOf
-    start-is = rw (← found) (unless-done why _ _ ok)
+    start-is = rw (← found) (if-done why _ _ ok)
 
     pub start-untagged : choice ≡ None → s ∷ [] ≡ ride .states → n ≡ length (ride .blocks)
-        → startOf i f key nonce forgets choice g ≡ record { answer = answer done 0 n; session = rides s 0; out = []; tag = g }
+        → startOf K i f key nonce forgets choice g ≡ record { answer = answer done 0 n; session = K .riding s 0; out = []; tag = g }
     start-untagged h hs hn = start-is ∙ rw (hn, ← hs, h) refl
 
     pub start-produced : (t : Bytes) → choice ≡ Produced → s ∷ [] ≡ ride .states → n ≡ length (ride .blocks) → t ≡ take (length g) s
-        → startOf i f key nonce forgets choice g ≡ record { answer = answer done 0 n; session = rides s tagLength; out = []; tag = t }
+        → startOf K i f key nonce forgets choice g ≡ record { answer = answer done 0 n; session = K .riding s tagLength; out = []; tag = t }
     start-produced t h hs hn ht =
         let k = start-allowed (length key) (length nonce) choice (length g) why found ok in
         let t′ : t ≡ take tagLength s = rw (k .tag (rw h refl)) at ht in
         start-is ∙ rw (hn, t′, ← hs, h) refl
 
     pub start-right : choice ≡ Checked → s ∷ [] ≡ ride .states → n ≡ length (ride .blocks) → sameBytes (take tagLength s) g ≡ true
-        → startOf i f key nonce forgets choice g ≡ record { answer = answer done 0 n; session = rides s tagLength; out = []; tag = g }
+        → startOf K i f key nonce forgets choice g ≡ record { answer = answer done 0 n; session = K .riding s tagLength; out = []; tag = g }
     start-right h hs hn ht = start-is ∙ rw (hn, ← hs, h, ht) refl
 
-    pub start-wrong : choice ≡ Checked → s ∷ [] ≡ ride .states → sameBytes (take tagLength s) g ≡ false → startOf i f key nonce forgets choice g ≡ refused tag-differs broken [] g
+    pub start-wrong : choice ≡ Checked → s ∷ [] ≡ ride .states → sameBytes (take tagLength s) g ≡ false → startOf K i f key nonce forgets choice g ≡ refused tag-differs (K .failed) [] g
     start-wrong h hs ht = start-is ∙ rw (← hs, h, ht) refl

@@ -3,23 +3,24 @@ use mathlib.Core.Path.{_≡_, ap}
 use mathlib.Core.Bool.{Bool, true, false, not}
 use mathlib.Core.List.{[], _∷_}
 use lib.ListN.{length}
-use Rattle.table.specs.Numbers.{done, not-started}
+use Rattle.table.specs.Numbers.{done}
 use Rattle.table.specs.Refusals.{None}
+use Rattle.table.proofs.Exact.{none-front, none-both}
 use Rattle.slices.specs.Same.{sameBytes}
 use Rattle.motorist.specs.Instance.{Instance}
 use Rattle.motorist.specs.Piston.{Bytes}
 use Rattle.motorist.specs.Motorist.{Message, tag, unwrap}
-use Rattle.calls.specs.Session.{Session, live, same}
-use Rattle.calls.specs.Outcome.{refused, wrapped, wrapOf, unwrapOf}
+use Rattle.calls.specs.Session.{View, Records, live}
+use Rattle.calls.specs.Outcome.{wrapRules, openRules, wrapped, wrapOf, unwrapOf}
 use Rattle.calls.specs.Chain.{Call, Opening, callOf, openingOf}
+use Rattle.calls.specs.Words.{textLength, rideOf}
+use Rattle.calls.specs.Promises.{tagRule, unwrapDiffers, startDiffers, turnedAway}
 use Rattle.calls.proofs.Allowed.{Allowed, AllowedStart, allowed, none-refused, allowed-start, none-refused-start}
-use Rattle.table.proofs.Exact.{none-front, none-both}
-use Rattle.calls.proofs.Refusals.{wrapRules, openRules, tagRule, unwrapDiffers, startDiffers, wrap-exactly, unwrap-exactly, start-exactly, wrap-leaves, unwrap-leaves}
-use Rattle.calls.proofs.Words.{textLength, rideOf}
+use Rattle.calls.proofs.Refusals.{wrap-exactly, unwrap-exactly, start-exactly, wrap-leaves, unwrap-leaves}
 
--- what the rules ask of a call and its session, and of a start
-abbrev pub AllowedCall : Session → Call → Type 0
-AllowedCall x c = Allowed x (textLength c) (length (c .message .meta)) (length (c .out)) (length (c .tag))
+-- what the rules ask of a call on a session that shows v, and of a start
+abbrev pub AllowedCall : View → Call → Type 0
+AllowedCall v c = Allowed (v .phase) (v .at) (textLength c) (length (c .message .meta)) (length (c .out)) (length (c .tag))
 
 abbrev pub AllowedOpening : Opening → Type 0
 AllowedOpening a = AllowedStart (length (a .key)) (length (a .nonce)) (a .choice) (length (a .tag))
@@ -28,48 +29,50 @@ AllowedOpening a = AllowedStart (length (a .key)) (length (a .nonce)) (a .choice
 abbrev pub either : Call → Bool → Call
 either c d = record { decrypt = d; message = c .message; out = c .out; tag = c .tag }
 
-module _ (i : Instance) (f : Bytes → Bytes) (x : Session) where
+module _ {R : Type 0} (K : Records R) (i : Instance) (f : Bytes → Bytes) (x : R) where
   -- ---- a call that is done
-  pub call-done : (c : Call) → callOf i f x c .answer .number ≡ done → callOf i f x c ≡ wrapped (rideOf i f x c) (textLength c) (c .out)
+  pub call-done : (c : Call) → callOf K i f x c .answer .number ≡ done → callOf K i f x c ≡ wrapped K (rideOf i f (K .shows x) c) (textLength c) (c .out)
   call-done c = go (c .decrypt)
     where
-      go : (d : Bool) → callOf i f x (either c d) .answer .number ≡ done → callOf i f x (either c d) ≡ wrapped (rideOf i f x (either c d)) (textLength c) (c .out)
-      go true e = unwrap-leaves i f x (c .message) (c .tag) (c .out) .done e
-      go false e = wrap-leaves i f x (c .message) (c .out) (c .tag) .done e
+      go : (d : Bool) → callOf K i f x (either c d) .answer .number ≡ done → callOf K i f x (either c d) ≡ wrapped K (rideOf i f (K .shows x) (either c d)) (textLength c) (c .out)
+      go true e = unwrap-leaves K i f x (c .message) (c .tag) (c .out) .done e
+      go false e = wrap-leaves K i f x (c .message) (c .out) (c .tag) .done e
 
-  pub call-allowed : (c : Call) → callOf i f x c .answer .number ≡ done → AllowedCall x c
-  call-allowed c e = allowed x _ _ _ _ (go (c .decrypt) e)
+  pub call-allowed : (c : Call) → callOf K i f x c .answer .number ≡ done → AllowedCall (K .shows x) c
+  call-allowed c e = allowed (K .shows x .phase) (K .shows x .at) _ _ _ _ (go (c .decrypt) e)
     where
-      go : (d : Bool) → callOf i f x (either c d) .answer .number ≡ done → None (wrapRules x (c .message) (c .out) (c .tag))
+      go : (d : Bool) → callOf K i f x (either c d) .answer .number ≡ done → None (wrapRules (K .shows x) (c .message) (c .out) (c .tag))
       go true h =
-          none-front (wrapRules x (c .message) (c .out) (c .tag)) (tagRule (unwrapDiffers i f x (c .message) (c .tag)))
-          (unwrap-exactly i f x (c .message) (c .tag) (c .out) .done .0 h)
-      go false h = wrap-exactly i f x (c .message) (c .out) (c .tag) .done .0 h
+          none-front (wrapRules (K .shows x) (c .message) (c .out) (c .tag)) (tagRule (unwrapDiffers i f (K .shows x) (c .message) (c .tag)))
+          (unwrap-exactly K i f x (c .message) (c .tag) (c .out) .done .0 h)
+      go false h = wrap-exactly K i f x (c .message) (c .out) (c .tag) .done .0 h
 
   -- an unwrap of what is allowed, with the right tag, is done
-  pub unwrap-does : (c : Message) (g out : Bytes) → Allowed x (length (c .text)) (length (c .meta)) (length out) (length g)
-      → sameBytes (tag (unwrap i f (x .state ∷ []) (x .at) c .states)) g ≡ true → unwrapOf i f x c g out .answer .number ≡ done
+  pub unwrap-does : (c : Message) (g out : Bytes) → Allowed (K .shows x .phase) (K .shows x .at) (length (c .text)) (length (c .meta)) (length out) (length g)
+      → sameBytes (tag (unwrap i f (K .shows x .state ∷ []) (K .shows x .at) c .states)) g ≡ true → unwrapOf K i f x c g out .answer .number ≡ done
   unwrap-does c g out a e =
-      unwrap-exactly i f x c g out .done .1
-      (none-both (wrapRules x c out g) (tagRule (unwrapDiffers i f x c g))
-      (none-refused x (length (c .text)) (length (c .meta)) (length out) (length g) a) (ap not e, tt))
+      unwrap-exactly K i f x c g out .done .1
+      (none-both (wrapRules (K .shows x) c out g) (tagRule (unwrapDiffers i f (K .shows x) c g))
+      (none-refused (K .shows x .phase) (K .shows x .at) (length (c .text)) (length (c .meta)) (length out) (length g) a) (ap not e, tt))
 
   -- ---- a call on a session that may not be used: 1, and all as it was
-  pub call-away : (c : Call) → live x ≡ false → callOf i f x c ≡ refused not-started same (c .out) (c .tag)
+  pub call-away : (c : Call) → live (K .shows x .phase) (K .shows x .at) ≡ false → callOf K i f x c ≡ turnedAway x c
   unfolding wrapOf unwrapOf
   call-away c e = go (c .decrypt)
     where
-      go : (d : Bool) → callOf i f x (either c d) ≡ refused not-started same (c .out) (c .tag)
+      go : (d : Bool) → callOf K i f x (either c d) ≡ turnedAway x c
       go true = rw e
       go false = rw e
 
 -- ---- a start that is done, and one that is to be
-module _ (i : Instance) (f : Bytes → Bytes) (a : Opening) where
-  pub start-allowed : openingOf i f a .answer .number ≡ done → AllowedOpening a
-  start-allowed e = allowed-start _ _ (a .choice) _ (none-front (openRules a) (tagRule (startDiffers i f a)) (start-exactly i f a .done .0 e))
+module _ {R : Type 0} (K : Records R) (i : Instance) (f : Bytes → Bytes) (a : Opening) where
+  pub start-allowed : openingOf K i f a .answer .number ≡ done → AllowedOpening a
+  start-allowed e =
+      allowed-start _ _ (a .choice) _
+      (none-front (openRules (a .key) (a .nonce) (a .choice) (a .tag)) (tagRule (startDiffers i f a)) (start-exactly K i f a .done .0 e))
 
-  pub start-does : AllowedOpening a → startDiffers i f a ≡ false → openingOf i f a .answer .number ≡ done
+  pub start-does : AllowedOpening a → startDiffers i f a ≡ false → openingOf K i f a .answer .number ≡ done
   start-does h e =
-      start-exactly i f a .done .1
-      (none-both (openRules a) (tagRule (startDiffers i f a))
+      start-exactly K i f a .done .1
+      (none-both (openRules (a .key) (a .nonce) (a .choice) (a .tag)) (tagRule (startDiffers i f a))
       (none-refused-start (length (a .key)) (length (a .nonce)) (a .choice) (length (a .tag)) h) (e, tt))

@@ -1,11 +1,11 @@
 -- Demand 2, the partner: another side that starts alike and unwraps every message of the first side, the ciphertext which that put out or was given, with its tag.
--- If the first side's calls all answer 0, so do the partner's, at every step; each gives the plaintext, and the sessions are equal.
+-- If the first side's calls all answer 0, so do the partner's, at every step; each gives the plaintext, and the records are equal.
 use mathlib.Core.Path.{_≡_, refl, sym, ap, subst, _∙_}
 use mathlib.Core.Bool.{Bool, true, false, not, _&&_}
-use mathlib.Core.List.{List, [], _∷_, _++_}
+use mathlib.Core.List.{List, [], _∷_}
 use Prim.Native.Nat.{ℕ, _≤_, _<_}
 use native.Mathlib.Omega.{arith}
-use lib.ListN.{length, drop}
+use lib.ListN.{length}
 use lib.Seq.{length-take-le}
 use Rattle.table.specs.Numbers.{done}
 use Rattle.table.specs.declared.Answer.{Answer}
@@ -18,74 +18,23 @@ use Rattle.motorist.specs.Instance.{Instance, Sound, solo, textRate, tagLength}
 use Rattle.motorist.specs.Piston.{Bytes}
 use Rattle.motorist.specs.Engine.{States, Ride}
 use Rattle.motorist.specs.Motorist.{Start, Message, taken, tag, start, message}
-use Rattle.motorist.specs.Session.{Step, step, withText, plaintextOf}
+use Rattle.motorist.specs.Session.{Step, step, plaintextOf}
 use Rattle.motorist.proofs.OnePiston.{start-given, message-given}
 use Rattle.motorist.proofs.Rides.{message-output}
 use Rattle.motorist.proofs.RoundTrip.{unwrap-wrap}
-use Rattle.calls.specs.Session.{Session, after, ridingOn}
-use Rattle.calls.specs.Outcome.{Outcome, endState, wrapped, unwrapOf}
+use Rattle.calls.specs.Session.{View, Records}
+use Rattle.calls.specs.Outcome.{endState, wrapped, unwrapOf}
 use Rattle.calls.specs.Chain.{Call, Opening, callOf, outcomes, openingOf, begins}
+use Rattle.calls.specs.Words.{textLength, putOut, rideOf, AllDone, startIn, stepOf}
+use Rattle.calls.specs.Promises.{checks, cryptogramOf, Hears, Beside, Given, Agree, StartsAlike, Partner}
 use Rattle.calls.proofs.Allowed.{Allowed, live-fits}
 use Rattle.calls.proofs.Chains.{put-out, start-next}
 use Rattle.calls.proofs.OneCall.{AllowedCall, call-done, call-allowed, unwrap-does, start-allowed, start-does}
-use Rattle.calls.proofs.Refusals.{checks, unwrap-leaves, start-leaves}
-use Rattle.calls.proofs.Words.{textLength, putOut, rideOf, AllDone, Unrefused, startIn, stepOf}
+use Rattle.calls.proofs.Refusals.{unwrap-leaves, start-leaves}
 
--- ---- the words of the promise
 -- f gives at least as many bytes as a tag has
 abbrev pub Long : (Bytes → Bytes) → Type 0
 Long f = (s : Bytes) → tagLength ≤ length (f s)
-
--- of a step that put out the bytes o, the message in ciphertext
-abbrev pub cryptogramOf : Step → Bytes → Message
-cryptogramOf x o = elim (x .decrypt) [ true ↦ x .message | false ↦ withText o (x .message) ]
-
--- the partner's call: it unwraps the ciphertext of the call c, whose outcome is o, with the tag that c produced or was given
-abbrev pub hearing : Call → Outcome → Bytes → Call
-hearing c o out = record { decrypt = true; message = cryptogramOf (stepOf c) (putOut c o); out = out; tag = o .tag }
-
--- the call p is such a call, its output no shorter than the text
-pub record Hears (c : Call) (o : Outcome) (p : Call) : Type 0 where
-  pub call : p ≡ hearing c o (p .out)
-  pub room : textLength c ≤ length (p .out)
-
-module _ (i : Instance) (f : Bytes → Bytes) where
-  -- what holds of two chains at every step, one beside the other: P of the sessions and the calls there
-  abbrev pub Beside : (Session → Call → Session → Call → Type 0) → Session → List Call → Session → List Call → Type 0
-  Beside P x [] y [] = Unit {0}
-  Beside P x [] y (p ∷ ps) = ⊥
-  Beside P x (c ∷ cs) y [] = ⊥
-  Beside P x (c ∷ cs) y (p ∷ ps) = P x c y p × Beside P (after i x (callOf i f x c .session)) cs (after i y (callOf i f y p .session)) ps
-
-  -- the partner is given what the first side put out, or was given
-  abbrev pub Given : Session → Call → Session → Call → Type 0
-  Given x c y p = Hears c (callOf i f x c) p
-
-  -- the partner's call answers as the first side's did: the number, the bytes written and the runs; it gives the plaintext; the sessions after are equal
-  pub record Agree (x : Session) (c : Call) (y : Session) (p : Call) : Type 0 where
-    pub answer : callOf i f y p .answer ≡ callOf i f x c .answer
-    pub plaintext : callOf i f y p .out ≡ plaintextOf (stepOf c) (putOut c (callOf i f x c)) .text ++ drop (textLength c) (p .out)
-    pub session : after i y (callOf i f y p .session) ≡ after i x (callOf i f x c .session)
-
-  -- the partner's start: key, nonce and choices alike; a tag buffer that it is to fill has 16 bytes, and a tag that it is to check is the first side's
-  pub record StartsAlike (a p : Opening) : Type 0 where
-    pub key : p .key ≡ a .key
-    pub nonce : p .nonce ≡ a .nonce
-    pub forgets : p .forgets ≡ a .forgets
-    pub tagged : asked (p .choice) ≡ asked (a .choice)
-    pub lent : p .choice ≡ Produced → length (p .tag) ≡ tagLength
-    pub given : p .choice ≡ Checked → p .tag ≡ openingOf i f a .tag
-
-  pub record Partnered (a : Opening) (cs : List Call) (p : Opening) (ps : List Call) : Type 0 where
-    -- every call of the partner answers 0
-    pub unrefused : Unrefused i f p ps
-    -- the sessions are equal from the start on; and at every step they are, and the plaintext is given
-    pub start : begins i f p ≡ begins i f a
-    pub steps : Beside Agree (begins i f a) cs (begins i f p) ps
-
-  abbrev pub Partner : Type 0
-  Partner = (a : Opening) (cs : List Call) (p : Opening) (ps : List Call) → Unrefused i f a cs → StartsAlike a p
-      → Beside Given (begins i f a) cs (begins i f p) ps → Partnered a cs p ps
 
 -- ---- a call
 -- the ride r, but with the bytes t as its output
@@ -116,60 +65,61 @@ module _ (i : Instance) (ok : Sound i) (f : Bytes → Bytes) where
       go true = (refl, refl)
       go false = (e, refl)
 
-module _ (b w k : ℕ) (ok : Sound (solo b w k)) (f : Bytes → Bytes) (long : Long f) where
+module _ (b w k : ℕ) (ok : Sound (solo b w k)) (f : Bytes → Bytes) (long : Long f) {R : Type 0} (K : Records R) where
   abbrev one : Instance
   one = solo b w k
 
   tag-long : (ss : States) → (x : Bytes) × (ss ≡ f x ∷ []) → length (tag ss) ≡ tagLength
   tag-long ss (x, e) = rw e (length-take-le tagLength (f x) (long x))
 
-  heard-ride : (x : Session) (c : Call) (out : Bytes) → AllowedCall x c → textLength c ≤ length out
-      → (let r : Ride = rideOf one f x c in
-      unwrapOf one f x (cryptogramOf (stepOf c) (r .output)) (tag (r .states)) out
-      ≡ wrapped (giving (plaintextOf (stepOf c) (r .output) .text) r) (textLength c) out)
+  heard-ride : (x : R) (c : Call) (out : Bytes) → AllowedCall (K .shows x) c → textLength c ≤ length out
+      → (let r : Ride = rideOf one f (K .shows x) c in
+      unwrapOf K one f x (cryptogramOf (stepOf c) (r .output)) (tag (r .states)) out
+      ≡ wrapped K (giving (plaintextOf (stepOf c) (r .output) .text) r) (textLength c) out)
   heard-ride x c out h room =
-      let ss : States = x .state ∷ [] in
-      let r : Ride = rideOf one f x c in
+      let v : View = K .shows x in
+      let ss : States = v .state ∷ [] in
+      let r : Ride = rideOf one f (K .shows x) c in
       let m : Message = cryptogramOf (stepOf c) (r .output) in
-      let at : x .at < textRate one = live-fits one ok x (h .session) in
-      let n = hears-length one ok f (stepOf c) (r .output) (message-output one f ok (c .decrypt) ss (x .at) at (c .message)) in
-      let z = hears-ride one ok f ss (x .at) (stepOf c) at in
-      let g : length (tag (r .states)) ≡ tagLength = tag-long (r .states) (message-given b w k f ok (c .decrypt) (x .state) (x .at) (c .message) at) in
-      let fine : Allowed x (length (m .text)) (length (m .meta)) (length out) (length (tag (r .states))) =
+      let at : v .at < textRate one = live-fits one ok (v .phase) (v .at) (h .session) in
+      let n = hears-length one ok f (stepOf c) (r .output) (message-output one f ok (c .decrypt) ss (v .at) at (c .message)) in
+      let z = hears-ride one ok f ss (v .at) (stepOf c) at in
+      let g : length (tag (r .states)) ≡ tagLength = tag-long (r .states) (message-given b w k f ok (c .decrypt) (v .state) (v .at) (c .message) at) in
+      let fine : Allowed (v .phase) (v .at) (length (m .text)) (length (m .meta)) (length out) (length (tag (r .states))) =
       rw (n .0, n .1) (record { session = h .session; text = h .text; meta = h .meta; output = room; tag = g }) in
-      let same : sameBytes (tag (message one f true ss (x .at) m .states)) (tag (r .states)) ≡ true = rw z (same-refl (tag (r .states))) in
-      let d = unwrap-does one f x m (tag (r .states)) out fine same in
-      unwrap-leaves one f x m (tag (r .states)) out .done d ∙ rw (z, n .0)
+      let same : sameBytes (tag (message one f true ss (v .at) m .states)) (tag (r .states)) ≡ true = rw z (same-refl (tag (r .states))) in
+      let d = unwrap-does K one f x m (tag (r .states)) out fine same in
+      unwrap-leaves K one f x m (tag (r .states)) out .done d ∙ rw (z, n .0)
 
-  heard : (x : Session) (c : Call) (p : Call) → callOf one f x c .answer .number ≡ done → Hears c (callOf one f x c) p → Agree one f x c x p
+  heard : (x : R) (c : Call) (p : Call) → callOf K one f x c .answer .number ≡ done → Hears c (callOf K one f x c) p → Agree K one f x c x p
   heard x c p e u =
-      let h = call-allowed one f x c e in
-      let r : Ride = rideOf one f x c in
-      let d : callOf one f x c ≡ wrapped r (textLength c) (c .out) = call-done one f x c e in
-      let put : putOut c (callOf one f x c) ≡ r .output = put-out one ok f x c e in
-      let t : callOf one f x c .tag ≡ tag (r .states) = rw d in
-      let z : callOf one f x p ≡ wrapped (giving (plaintextOf (stepOf c) (r .output) .text) r) (textLength c) (p .out) =
-      ap (callOf one f x) (u .call) ∙ rw (put, t) (heard-ride x c (p .out) h (u .room)) in
+      let h = call-allowed K one f x c e in
+      let r : Ride = rideOf one f (K .shows x) c in
+      let d : callOf K one f x c ≡ wrapped K r (textLength c) (c .out) = call-done K one f x c e in
+      let put : putOut c (callOf K one f x c) ≡ r .output = put-out K one f ok x c e in
+      let t : callOf K one f x c .tag ≡ tag (r .states) = rw d in
+      let z : callOf K one f x p ≡ wrapped K (giving (plaintextOf (stepOf c) (r .output) .text) r) (textLength c) (p .out) =
+      ap (callOf K one f x) (u .call) ∙ rw (put, t) (heard-ride x c (p .out) h (u .room)) in
       record { answer = rw (z, d); plaintext = rw (z, put); session = rw (z, d) }
 
   -- ---- a chain
-  chain-heard : (x y : Session) (cs ps : List Call) → y ≡ x → AllDone (outcomes one f x cs) → Beside one f (Given one f) x cs y ps
-      → AllDone (outcomes one f y ps) × Beside one f (Agree one f) x cs y ps
+  chain-heard : (x y : R) (cs ps : List Call) → y ≡ x → AllDone (outcomes K one f x cs) → Beside K one f (Given K one f) x cs y ps
+      → AllDone (outcomes K one f y ps) × Beside K one f (Agree K one f) x cs y ps
   chain-heard x y [] [] e h u = (tt, tt)
   chain-heard x y (c ∷ cs) (p ∷ ps) e h u =
-      let a : Agree one f x c y p = subst (λ (s : Session). Agree one f x c s p) (sym e) (heard x c p (h .0) (u .0)) in
-      let ih = chain-heard (after one x (callOf one f x c .session)) (after one y (callOf one f y p .session)) cs ps (a .session) (h .1) (u .1) in
+      let a : Agree K one f x c y p = subst (λ (s : R). Agree K one f x c s p) (sym e) (heard x c p (h .0) (u .0)) in
+      let ih = chain-heard (callOf K one f x c .session) (callOf K one f y p .session) cs ps (a .session) (h .1) (u .1) in
       ((ap (λ (n : Answer). n .number) (a .answer) ∙ h .0, ih .0), (a, ih .1))
 
   -- ---- a start
-  module _ (a p : Opening) (e : openingOf one f a .answer .number ≡ done) (h : StartsAlike one f a p) where
+  module _ (a p : Opening) (e : openingOf K one f a .answer .number ≡ done) (h : StartsAlike K one f a p) where
     alike : startIn p ≡ startIn a
     alike = rw (h .key, h .nonce, h .forgets, h .tagged)
 
     first-tag : p .choice ≡ Checked → p .tag ≡ tag (start one f (startIn a) .states)
     first-tag c =
         let t : asked (a .choice) ≡ true = sym (h .tagged) ∙ ap asked c in
-        h .given c ∙ rw (start-leaves one f a .done e, t)
+        h .given c ∙ rw (start-leaves K one f a .done e, t)
 
     tag-fits : (u : StartTag) → p .choice ≡ u → asked u ≡ true → length (p .tag) ≡ tagLength
     tag-fits None c t = absurd (let z : _≡_ {A = ℕ} 0 1 = cc in omega arith)
@@ -181,21 +131,21 @@ module _ (b w k : ℕ) (ok : Sound (solo b w k)) (f : Bytes → Bytes) (long : L
     tag-agrees Produced c = refl
     tag-agrees Checked c = rw (first-tag c, alike, same-refl (tag (start one f (startIn a) .states)))
 
-    start-heard : openingOf one f p .answer .number ≡ done
+    start-heard : openingOf K one f p .answer .number ≡ done
     start-heard =
-        let g = start-allowed one f a e in
-        start-does one f p
+        let g = start-allowed K one f a e in
+        start-does K one f p
         (record { long = rw (h .key) (g .long); short = rw (h .key) (g .short); nonce = rw (h .nonce) (g .nonce); tag = tag-fits (p .choice) refl })
         (tag-agrees (p .choice) refl)
 
-    start-same : begins one f p ≡ begins one f a
+    start-same : begins K one f p ≡ begins K one f a
     start-same =
-        start-next b w k ok f p start-heard
-        ∙ ap (λ (s : Start). ridingOn (endState (start one f s)) (taken (s .tagged))) alike
-        ∙ sym (start-next b w k ok f a e)
+        start-next K one f p start-heard
+        ∙ ap (λ (s : Start). K .riding (endState (start one f s)) (taken (s .tagged))) alike
+        ∙ sym (start-next K one f a e)
 
-  pub partner : Partner one f
+  pub partner : Partner K one f
   partner a cs p ps h s u =
       let e = start-same a p (h .start) s in
-      let z = chain-heard (begins one f a) (begins one f p) cs ps e (h .calls) u in
+      let z = chain-heard (begins K one f a) (begins K one f p) cs ps e (h .calls) u in
       record { unrefused = record { start = start-heard a p (h .start) s; calls = z .0 }; start = e; steps = z .1 }

@@ -5,7 +5,7 @@ use Rattle.table.specs.declared.StartTag.{StartTag}
 use Rattle.motorist.specs.Instance.{Instance}
 use Rattle.motorist.specs.Piston.{Bytes}
 use Rattle.motorist.specs.Motorist.{Message}
-use Rattle.calls.specs.Session.{Session, after, unstarted}
+use Rattle.calls.specs.Session.{Records}
 use Rattle.calls.specs.Outcome.{Outcome, wrapOf, unwrapOf, startOf}
 
 -- a wrap of a message, or (decrypt) an unwrap of a cryptogram; the output and the tag buffer as they are lent
@@ -23,26 +23,26 @@ pub record Opening : Type 0 where
   pub choice : StartTag
   pub tag : Bytes
 
-module _ (i : Instance) (f : Bytes → Bytes) where
-  abbrev pub callOf : Session → Call → Outcome
+module _ {R : Type 0} (K : Records R) (i : Instance) (f : Bytes → Bytes) where
+  abbrev pub callOf : R → Call → Outcome R
   callOf x c =
       elim (c .decrypt) [
-        | true ↦ unwrapOf i f x (c .message) (c .tag) (c .out)
-        | false ↦ wrapOf i f x (c .message) (c .out) (c .tag)
+        | true ↦ unwrapOf K i f x (c .message) (c .tag) (c .out)
+        | false ↦ wrapOf K i f x (c .message) (c .out) (c .tag)
       ]
 
   -- the outcomes of the calls cs from the session x on, and the session they leave
-  abbrev pub outcomes : Session → List Call → List Outcome
+  abbrev pub outcomes : R → List Call → List (Outcome R)
   outcomes x [] = []
-  outcomes x (c ∷ cs) = let o : Outcome = callOf x c in o ∷ outcomes (after i x (o .session)) cs
+  outcomes x (c ∷ cs) = let o : Outcome R = callOf x c in o ∷ outcomes (o .session) cs
 
-  abbrev pub endOf : Session → List Call → Session
+  abbrev pub endOf : R → List Call → R
   endOf x [] = x
-  endOf x (c ∷ cs) = endOf (after i x (callOf x c .session)) cs
+  endOf x (c ∷ cs) = endOf (callOf x c .session) cs
 
-  abbrev pub openingOf : Opening → Outcome
-  openingOf a = startOf i f (a .key) (a .nonce) (a .forgets) (a .choice) (a .tag)
+  abbrev pub openingOf : Opening → Outcome R
+  openingOf a = startOf K i f (a .key) (a .nonce) (a .forgets) (a .choice) (a .tag)
 
   -- the session that a start gives
-  abbrev pub begins : Opening → Session
-  begins a = after i (unstarted i) (openingOf a .session)
+  abbrev pub begins : Opening → R
+  begins a = openingOf a .session

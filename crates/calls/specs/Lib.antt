@@ -1,4 +1,7 @@
--- What a reader of this crate must believe: the whole outcome of start, wrap and unwrap from all they are given, and chains of them.
+-- What a reader of this crate must believe: what a record shows, the whole outcome of start, wrap and unwrap from all they are given, chains of them;
+-- and, in Promises, what is promised of them, demand by demand.
 pub mod Chain
 pub mod Outcome
+pub mod Promises
 pub mod Session
+pub mod Words

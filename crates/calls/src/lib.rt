@@ -1,7 +1,6 @@
 // What start, wrap and unwrap do, at any instance: definitions in specs/, laws and promises in proofs/.
 // In code here is what no instance changes: which refusal is given. Serves the instances; no public call.
 ghost use mathlib.Core.Path.{_≡_};
-ghost use mathlib.Core.List.{[]};
 ghost use Rattle.table.specs.Refusals.{first};
 ghost use Rattle.calls.specs.Outcome.{messageRules, startRules};
 use table::Phase;
@@ -16,7 +15,7 @@ pub fn message_refusal(
     out: usize,
     tag: usize,
 ) -> u8
-    ensures { λ r. ⌜ r ≡ first (messageRules (record { phase = phase; state = []; at = at }) text meta out tag) ⌝ }
+    ensures { λ r. ⌜ r ≡ first (messageRules phase at text meta out tag) ⌝ }
 {
     let riding = table::is_riding(phase);
     let live = riding & ((at == 0) | (at == 16));

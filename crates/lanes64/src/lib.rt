@@ -15,7 +15,7 @@ pub fn zero() -> [u64; 25]
 }
 
 // The first n lanes' worth of s xored in from lane q on. Where bytes go in, the lanes are changed in place: a copy for each run
-// of bytes would cost about a tenth of the speed.
+// of bytes would cost about a seventh of the speed.
 fn absorb_whole(lanes: &mut [u64; 25], q: usize, n: usize, s: &[u8])
     requires { ⌜ (length (now lanes) ≡ 25) × (q + n ≤ 25) × (8 * n ≤ length (now s)) ⌝ }
     ensures { λ r. ⌜ (length (now (lanes .exit)) ≡ 25) × (bytes 8 (now (lanes .exit)) ≡ xors (bytes 8 (now (lanes .entry))) (placed (8 * q) (take (8 * n) (now (s .entry))))) ⌝ }

@@ -1,9 +1,8 @@
 -- A block put in part by part, text, metadata and offset bytes each at its place, is the block put in at once.
-use mathlib.Core.Path.{_≡_, refl, sym, ap, _∙_}
-use mathlib.Core.List.{List, [], _∷_, _++_}
+use mathlib.Core.Path.{_≡_, sym, ap, _∙_}
+use mathlib.Core.List.{[], _∷_, _++_}
 use Prim.Native.Nat.{ℕ, _+_, _-_, _≤_}
 use native.Mathlib.Nat.{add-zero}
-use native.Mathlib.Omega.{arith}
 use lib.ListN.{length, length-append}
 use Rattle.motorist.specs.Instance.{Instance, stateLength, fullRate}
 use Rattle.motorist.specs.Piston.{Bytes, xors, pad, laid, cryptEnd, block}

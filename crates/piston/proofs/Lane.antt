@@ -1,6 +1,6 @@
 -- One lane among the bytes of all lanes, at every width of w bytes a lane: bytes xored into it, and key stream taken from it.
 -- The bytes may be fewer than the lane has, so one law serves whole lanes and the end of a fragment.
-use mathlib.Core.Path.{_≡_, refl, sym, ap, ap₂, _∙_}
+use mathlib.Core.Path.{_≡_, refl, sym, ap, _∙_}
 use mathlib.Core.List.{List, [], _∷_, _++_, append-assoc}
 use Prim.Native.Nat.{ℕ, zero, suc, _+_, _-_, _*_, _/_, _%_, _^_, _≤_, _<_}
 use native.Mathlib.Nat.{zero-add, suc-add, mul-zero, mul-suc, mul-add, zero-div, zero-mod}

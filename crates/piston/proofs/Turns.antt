@@ -1,7 +1,7 @@
 -- The loops over lanes in the shapes that the code leaves: none done, one lane more, the bytes behind the whole lanes, all done.
 use mathlib.Core.Path.{_≡_, refl, sym, ap, _∙_}
-use mathlib.Core.List.{List, [], _∷_, _++_, append-nil, append-assoc}
-use Prim.Native.Nat.{ℕ, zero, suc, _+_, _-_, _*_, _/_, _%_, _^_, _≤_, _<_}
+use mathlib.Core.List.{List, _∷_, _++_, append-nil}
+use Prim.Native.Nat.{ℕ, zero, suc, _+_, _-_, _*_, _≤_, _<_}
 use native.Mathlib.Nat.{mul-zero, mul-one, mul-add, mul-le-mul-left, le-of-lt}
 use native.Mathlib.Omega.{arith}
 use lib.Bits.{bitXor}

@@ -1,7 +1,7 @@
 -- Metadata alone, knots, and from them a whole message and a whole start, over the states' bytes.
 use mathlib.Core.Path.{_≡_, refl, sym, ap, _∙_}
 use mathlib.Core.Bool.{Bool, true, false}
-use mathlib.Core.List.{List, [], _∷_, _++_}
+use mathlib.Core.List.{[], _∷_}
 use Prim.Native.Nat.{ℕ, _+_, _-_, _≤_, _<_}
 use native.Mathlib.Nat.{zero-add}
 use native.Mathlib.Omega.{arith}
@@ -10,7 +10,7 @@ use lib.Seq.{drop-drop, take-all}
 use Rattle.motorist.specs.Instance.{Instance, Sound, solo, stateLength, textRate, fullRate, chainLength, packLength, tagLength}
 use Rattle.motorist.specs.Piston.{Bytes, xors, block, absorb, eom}
 use Rattle.motorist.specs.Engine.{Ride, group}
-use Rattle.motorist.specs.Motorist.{Start, Message, taken, start, message}
+use Rattle.motorist.specs.Motorist.{taken, start, message}
 use Rattle.motorist.proofs.OnePiston.{oneKnot, knotBlock, meta-last, meta-more, start-one, message-one}
 use Rattle.piston.specs.Placed.{placed}
 use Rattle.piston.proofs.Xors.{xors-nil}

@@ -1,13 +1,12 @@
 -- One block, put in part by part as the code does, over the states' bytes.
 use mathlib.Core.Path.{_≡_, refl, sym, ap, _∙_}
 use mathlib.Core.Bool.{Bool, true, false}
-use mathlib.Core.List.{List, [], _∷_}
-use Prim.Native.Nat.{ℕ, zero, suc, _+_, _-_, _%_, _≤_, _<_}
+use Prim.Native.Nat.{ℕ, zero, suc, _+_, _-_, _%_, _≤_}
 use native.Mathlib.Omega.{arith}
 use lib.ListN.{length, take, drop, length-drop}
 use lib.Seq.{length-take-le}
 use Rattle.motorist.specs.Instance.{Instance, Sound, fullRate}
-use Rattle.motorist.specs.Piston.{Bytes, xors, mask, plain, cryptEnd}
+use Rattle.motorist.specs.Piston.{Bytes, xors, plain, cryptEnd}
 use Rattle.piston.specs.Placed.{placed}
 use Rattle.piston.proofs.Block.{block-parts}
 use Rattle.piston.proofs.Turns.{mask-length}

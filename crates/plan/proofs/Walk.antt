@@ -2,7 +2,7 @@
 -- No lane stands here, so the code at every width goes by these laws.
 use mathlib.Core.Path.{_≡_, refl, sym, ap, _∙_}
 use mathlib.Core.Bool.{Bool, true, false, _||_}
-use mathlib.Core.List.{List, [], _∷_, _++_, append-assoc}
+use mathlib.Core.List.{[], _∷_, _++_, append-assoc}
 use mathlib.Core.Logic.{_⊎_, inl, inr}
 use Prim.Native.Nat.{ℕ, zero, suc, _+_, _-_, _%_, _≤_, _<_, min}
 use native.Mathlib.Nat.{le-antisymm}
@@ -14,7 +14,7 @@ use lib.Seq.{length-take-le, drop-drop}
 use Rattle.slices.proofs.Parts.{take-back, drop-back, length-back}
 use Rattle.motorist.specs.Instance.{Instance, Sound, solo, textRate, fullRate}
 use Rattle.motorist.specs.Piston.{Bytes, mask, plain, block}
-use Rattle.motorist.specs.Engine.{Ride, Blocks, States, group, injectStart, textFit, metaFit}
+use Rattle.motorist.specs.Engine.{Ride, group, injectStart, textFit, metaFit}
 use Rattle.motorist.proofs.Plans.{Fit, deal-fits, inject-le, behind}
 use Rattle.motorist.proofs.OnePiston.{group-last, group-more}
 use Rattle.motorist.proofs.Xors.{length-xors}

@@ -1,4 +1,4 @@
--- Records says how a record follows a session of the definitions, once for every instance; Lake and River have the demands by name.
+-- The demands by name, at Lake and at River; Zeros is what both need of their constructors.
 pub mod Lake
-pub mod Records
 pub mod River
+pub mod Zeros

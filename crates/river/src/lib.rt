@@ -1,13 +1,14 @@
 // River: a session of Keyak v2 over KECCAK-p[800, 12]. The public calls start, wrap and unwrap, and the record that they hand on.
 // Only here is the record known; the work is done on lanes, a text start and slices, in the crates below.
 ghost use mathlib.Core.Path.{_≡_};
+ghost use mathlib.Core.List.{[]};
 ghost use lib.ListN.{take};
 ghost use Rattle.keccak.specs.State.{bytes};
 ghost use Rattle.table.specs.Numbers.{done};
 ghost use Rattle.slices.specs.Same.{sameBytes};
 ghost use Rattle.motorist.specs.Instance.{tagLength};
 ghost use Rattle.calls.specs.Outcome.{answer};
-ghost use Rattle.river.specs.River.{unstarted, failed, riding, message, wrapOf, unwrapOf, startOf};
+ghost use Rattle.river.specs.River.{unstarted, failed, riding, outcome, message, wrapOf, unwrapOf, startOf};
 use table::Answer;
 use table::Phase;
 use table::StartTag;
@@ -57,7 +58,7 @@ fn riding(lanes: [u32; 25], at: usize) -> Session
     }
 }
 
-// Nothing was done: the answer is the refusal's number, and the session is the one given here.
+// A refusal: the answer is its number, nothing is written or counted, and the session is the one given here.
 fn refused(number: u8, session: Session) -> Turn
     ensures { λ r. ⌜ r ≡ record { answer = answer number 0 0; session = session } ⌝ }
 {
@@ -91,12 +92,12 @@ pub fn wrap(
     out: &mut [u8],
     tag: &mut [u8],
 ) -> Turn
-    ensures { λ r. ⌜ (r, now (out .exit), now (tag .exit)) ≡ wrapOf session (message (now (text .entry)) (now (meta .entry)) forget) (now (out .entry)) (now (tag .entry)) ⌝ }
+    ensures { λ r. ⌜ outcome r (now (out .exit)) (now (tag .exit)) ≡ wrapOf session (message (now (text .entry)) (now (meta .entry)) forget) (now (out .entry)) (now (tag .entry)) ⌝ }
 {
     let phase = session.phase;
     let at = session.at;
     let why = calls::message_refusal(phase, at, text.len(), meta.len(), out.len(), tag.len());
-    if why != 0 {
+    if why != table::DONE {
         return refused(why, session);
     }
     let lanes = session.lanes;
@@ -116,12 +117,12 @@ pub fn unwrap(
     forget: bool,
     out: &mut [u8],
 ) -> Turn
-    ensures { λ r. ⌜ (r, now (out .exit)) ≡ unwrapOf session (message (now (text .entry)) (now (meta .entry)) forget) (now (tag .entry)) (now (out .entry)) ⌝ }
+    ensures { λ r. ⌜ outcome r (now (out .exit)) (now (tag .entry)) ≡ unwrapOf session (message (now (text .entry)) (now (meta .entry)) forget) (now (tag .entry)) (now (out .entry)) ⌝ }
 {
     let phase = session.phase;
     let at = session.at;
     let why = calls::message_refusal(phase, at, text.len(), meta.len(), out.len(), tag.len());
-    if why != 0 {
+    if why != table::DONE {
         return refused(why, session);
     }
     let lanes = session.lanes;
@@ -147,10 +148,10 @@ fn tag_is(lanes: [u32; 25], tag: &[u8]) -> bool
 
 // Starts a session from a key and a nonce; the start tag is not asked for, goes into `tag`, or must be the one in `tag`.
 pub fn start(key: &[u8], nonce: &[u8], forget: bool, choice: StartTag, tag: &mut [u8]) -> Turn
-    ensures { λ r. ⌜ (r, now (tag .exit)) ≡ startOf (now (key .entry)) (now (nonce .entry)) forget choice (now (tag .entry)) ⌝ }
+    ensures { λ r. ⌜ outcome r [] (now (tag .exit)) ≡ startOf (now (key .entry)) (now (nonce .entry)) forget choice (now (tag .entry)) ⌝ }
 {
     let why = calls::start_refusal(key.len(), nonce.len(), choice, tag.len());
-    if why != 0 {
+    if why != table::DONE {
         return refused(why, unstarted());
     }
     let asked = table::is_asked(choice);

@@ -29,14 +29,6 @@ fn phase_of(n: usize) -> Phase {
     }
 }
 
-fn phase_number(p: Phase) -> usize {
-    match p {
-        Phase::Unstarted => 0,
-        Phase::Riding => 1,
-        Phase::Failed => 2,
-    }
-}
-
 fn use_of(n: usize) -> StartTag {
     match n {
         0 => StartTag::None,
@@ -58,7 +50,7 @@ fn left(line: &[u8], seen: Seen, h: Hand) -> Step {
     let state = h.state;
     let phase = h.phase;
     let first = lanes(line, seen, h.river, state);
-    let second = count(line, first, phase_number(phase));
+    let second = count(line, first, table::phase_number(phase) as usize);
     let at = count(line, second, h.at);
     Step {
         same: ends(line, at),

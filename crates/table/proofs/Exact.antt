@@ -1,12 +1,11 @@
 -- The exact condition of each answer, over any list of rules: n is given exactly when a rule with that number holds and none
 -- before it does, and 0 exactly when no rule holds. Calls cite these; a new refusal is one rule more and no new proof.
-use mathlib.Core.Path.{_≡_, refl, sym, ap, ap₂, _∙_}
+use mathlib.Core.Path.{_≡_, refl, sym, ap, _∙_}
 use mathlib.Core.Bool.{Bool, true, false}
-use mathlib.Core.Logic.{_↔_}
 use mathlib.Core.List.{List, [], _∷_, _++_}
 use Prim.Native.Nat.{ℕ, zero, suc, _<_}
 use native.Mathlib.Omega.{arith}
-use Rattle.table.specs.Refusals.{Rule, rule, orElse, first, ifDone, None, First}
+use Rattle.table.specs.Refusals.{Rule, rule, orElse, first, ifDone, None, First, Exact}
 
 -- every number of the list is a refusal, not 0
 abbrev pub Refuses : List Rule → Type 0
@@ -46,11 +45,7 @@ given-first n (r ∷ rs) e = by (r .condition) (r .number) e (given-first n rs)
         let f : First (suc n) rs = k d in
         record { before = rule false m ∷ f .before; after = f .after; split = ap (λ (q : List Rule). rule false m ∷ q) (f .split); none = (refl, f .none) }
 
--- both together: what a call's number n says of its rules
-pub record Exact (n : ℕ) (rs : List Rule) : Type 0 where
-  pub refused : (k : ℕ) → (n ≡ suc k) ↔ First (suc k) rs
-  pub done : (n ≡ 0) ↔ None rs
-
+-- both together
 pub exact : (rs : List Rule) → Refuses rs → Exact (first rs) rs
 exact rs p = record { refused = λ k. (given-first k rs, first-given (suc k) rs); done = (done-none rs p, none-done rs) }
 
@@ -59,16 +54,16 @@ pub exact-is : {n : ℕ} (rs : List Rule) → Refuses rs → n ≡ first rs → 
 exact-is rs p e = rw e (exact rs p)
 
 -- ---- lists of rules
--- each number of the list is below k
-abbrev pub Below : ℕ → List Rule → Type 0
-Below k [] = Unit {0}
-Below k (r ∷ rs) = (r .number < k) × Below k rs
+-- no number of the list is k
+abbrev pub Apart : ℕ → List Rule → Type 0
+Apart k [] = Unit {0}
+Apart k (r ∷ rs) = (r .number ≡ k → ⊥) × Apart k rs
 
-pub first-below : (k : ℕ) (rs : List Rule) → 0 < k → Below k rs → first rs < k
-first-below k [] h p = h
-first-below k (r ∷ rs) h p = by (r .condition) (first-below k rs h (p .1))
+pub first-apart : (k : ℕ) (rs : List Rule) → 0 < k → Apart k rs → first rs ≡ k → ⊥
+first-apart k [] h p e = omega arith
+first-apart k (r ∷ rs) h p e = by (r .condition) (first-apart k rs h (p .1)) e
   where
-    by : (b : Bool) → first rs < k → orElse b (r .number) (first rs) < k
+    by : (b : Bool) → (first rs ≡ k → ⊥) → orElse b (r .number) (first rs) ≡ k → ⊥
     by true rest = p .0
     by false rest = rest
 
@@ -91,6 +86,15 @@ first-append (q ∷ qs) rs p = by (q .condition) (q .number) (p .0) (first-appen
     by true zero h e = absurd (omega arith)
     by true (suc n) h e = refl
     by false n h e = e
+
+-- so is the number of what is worked out in that order: the work, which may end in a refusal of its own, where no rule of the first list holds
+pub number-in-order : {A : Type 0} (number : A → ℕ) (qs rs : List Rule) (work refusal : A) → Refuses qs → number refusal ≡ first qs → number work ≡ first rs
+    → number (ifDone (first qs) work refusal) ≡ first (qs ++ rs)
+number-in-order number qs rs work refusal p own last = go (first qs) own ∙ sym (first-append qs rs p)
+  where
+    go : (n : ℕ) → number refusal ≡ n → number (ifDone n work refusal) ≡ ifDone n (first rs) n
+    go zero e = last
+    go (suc n) e = e
 
 pub not-done : {A : Type 0} (n : ℕ) (new old : A) → (n ≡ 0 → ⊥) → ifDone n new old ≡ old
 not-done zero new old h = absurd (h refl)

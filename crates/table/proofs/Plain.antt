@@ -1,14 +1,14 @@
 -- A call's number in plain words: what it demands, as propositions in the order in which they are asked, and the number that is
 -- answered where one is not met. The rules of specs/Refusals.antt test such demands.
-use mathlib.Core.Path.{_≡_, refl, sym, ap, _∙_}
+use mathlib.Core.Path.{_≡_, refl}
 use mathlib.Core.Bool.{Bool, true, false, _&&_, not}
 use mathlib.Core.List.{List, [], _∷_}
 use mathlib.Core.Logic.{_⊎_, inl, inr}
-use Prim.Native.Nat.{ℕ, _≤_, _<_}
+use Prim.Native.Nat.{ℕ, _≤_}
 use native.Mathlib.Omega.{arith}
 use borrow.Author.Tests.{ltb-true, ltb-false, leb-true, leb-false, eqb-true, eqb-false, not-true, not-false}
 use lib.Dec.{ltb, leb, eqb}
-use Rattle.table.specs.Refusals.{Rule, rule, orElse, first}
+use Rattle.table.specs.Refusals.{Rule, orElse, first}
 
 pub record Demand : Type 1 where
   pub met : Type 0

@@ -1,6 +1,7 @@
 -- Which refusal a call gives: a list of conditions, each with its number; the first that holds is given, and 0 where none does.
 use mathlib.Core.Path.{_≡_}
 use mathlib.Core.Bool.{Bool, true, false}
+use mathlib.Core.Logic.{_↔_}
 use mathlib.Core.List.{List, [], _∷_, _++_}
 use Prim.Native.Nat.{ℕ, zero, suc}
 use Rattle.table.specs.Numbers.{done}
@@ -38,3 +39,8 @@ pub record First (n : ℕ) (rs : List Rule) : Type 0 where
   pub after : List Rule
   pub split : rs ≡ before ++ (rule true n ∷ after)
   pub none : None before
+
+-- both together, what a call's number n says of its rules: it is refused exactly by the first that holds, and done exactly where none does
+pub record Exact (n : ℕ) (rs : List Rule) : Type 0 where
+  pub refused : (k : ℕ) → (n ≡ suc k) ↔ First (suc k) rs
+  pub done : (n ≡ 0) ↔ None rs

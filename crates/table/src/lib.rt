@@ -2,7 +2,7 @@
 // Every crate that refuses takes its numbers from here; the definitions take theirs from specs/Numbers.antt.
 ghost use mathlib.Core.Path.{_≡_};
 ghost use Rattle.table.specs.Refusals.{orElse};
-ghost use Rattle.table.specs.Choices.{riding, asked};
+ghost use Rattle.table.specs.Choices.{phaseNumber, riding, asked};
 
 pub const DONE: u8 = 0;
 
@@ -64,6 +64,17 @@ pub enum StartTag {
     None,
     Produced,
     Checked,
+}
+
+// The number of a phase, for the host.
+pub fn phase_number(phase: Phase) -> u8
+    ensures { λ r. ⌜ r ≡ phaseNumber phase ⌝ }
+{
+    match phase {
+        Phase::Unstarted => 0,
+        Phase::Riding => 1,
+        Phase::Failed => 2,
+    }
 }
 
 // Whether the phase is that of a session under way.

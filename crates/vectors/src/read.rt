@@ -1,7 +1,6 @@
 // Reading a line of the vector layout (docs/VECTORS.md): words with a space between two, numbers, and bytes in five words.
 // Each reader says too whether its words were sound, so that a line outside the layout is seen.
-ghost use mathlib.Core.Path.{_≡_};
-ghost use Prim.Native.Nat.{_≤_, min};
+ghost use Prim.Native.Nat.{_≤_};
 ghost use lib.ListN.{length};
 use slices::least;
 use std::num::wrapping_add_u8;

@@ -1,5 +1,4 @@
 // The table that a person reads: its head, a row a month, its foot. Serves the main job.
-ghost use Prim.Native.Nat.{_≤_};
 ghost use mathlib.Core.Path.{_≡_};
 ghost use lib.ListN.{length};
 use dip::Header;

@@ -1,5 +1,4 @@
 -- The proof that `endian::store32` meets its contract.
-use lib.ListN.{length-set}
 use Rattle.endian.proofs.Laws.{stored-in}
 use borrow.Author.Needs.{needs}
 use Rattle.endian.proofs.store32.Statement.{statement}

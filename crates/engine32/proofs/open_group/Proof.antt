@@ -1,12 +1,12 @@
 -- The proof that `engine32::open_group` meets its contract.
 use borrow.Author.Needs.{needs}
-use mathlib.Core.Path.{_≡_, refl, sym, ap, _∙_}
-use Prim.Native.Nat.{_+_, _-_, _≤_}
+use mathlib.Core.Path.{_∙_}
+use Prim.Native.Nat.{_-_}
 use native.Mathlib.Omega.{arith}
 use lib.ListN.{length}
 use Rattle.keccak.specs.State.{bytes}
 use Rattle.motorist.specs.Keyak.{riverF}
-use Rattle.motorist.specs.Instance.{river, packLength, stateLength}
+use Rattle.motorist.specs.Instance.{river, packLength}
 use Rattle.motorist.proofs.Instances.{river-sound}
 use Rattle.plan.specs.Opening.{opening}
 use Rattle.plan.proofs.Opens.{opening-total}

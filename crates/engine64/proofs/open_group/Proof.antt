@@ -1,12 +1,12 @@
 -- The proof that `engine64::open_group` meets its contract.
 use borrow.Author.Needs.{needs}
-use mathlib.Core.Path.{_≡_, refl, sym, ap, _∙_}
-use Prim.Native.Nat.{_+_, _-_, _≤_}
+use mathlib.Core.Path.{_∙_}
+use Prim.Native.Nat.{_-_}
 use native.Mathlib.Omega.{arith}
 use lib.ListN.{length}
 use Rattle.keccak.specs.State.{bytes}
 use Rattle.motorist.specs.Keyak.{lakeF}
-use Rattle.motorist.specs.Instance.{lake, packLength, stateLength}
+use Rattle.motorist.specs.Instance.{lake, packLength}
 use Rattle.motorist.proofs.Instances.{lake-sound}
 use Rattle.plan.specs.Opening.{opening}
 use Rattle.plan.proofs.Opens.{opening-total}

@@ -1,15 +1,14 @@
 -- The proof that `lake::wrap` meets its contract.
-use mathlib.Core.Path.{_≡_, refl, sym, ap, _∙_}
+use mathlib.Core.Path.{refl, sym}
 use native.Mathlib.Omega.{arith}
 use lib.ListN.{length}
 use Rattle.keccak.specs.State.{bytes}
 use Rattle.motorist.specs.Instance.{lake}
 use Rattle.motorist.specs.Keyak.{lakeF}
 use Rattle.motorist.proofs.Instances.{lake-sound}
-use Rattle.calls.specs.Outcome.{Outcome}
 use Rattle.calls.proofs.Allowed.{live-fits, live-lane}
 use Rattle.calls.proofs.Meets.{message-allowed, wrap-refused, wrap-done}
-use Rattle.lake.specs.Lake.{viewOf, message, turn}
+use Rattle.lake.specs.Lake.{records, message}
 use borrow.Author.Needs.{needs}
 use Rattle.lake.proofs.wrap.Statement.{statement}
 use Rattle.lake.proofs.wrap.Tie as tie
@@ -23,7 +22,7 @@ refused-requires c κs = search needs
 returns : tie.Need-returns
 returns c =
     let a = c .before .before .before .before .before .before .before .args in
-    rw (c .refused .ensures) (ap (λ (o : Outcome). (turn (a .session) o, o .out, o .tag)) (sym (wrap-refused lake lakeF (viewOf (a .session)) (message (a .text .now) (a .meta .now) (a .forget)) (a .out .now) (a .tag .now) (c .before .before .message-refusal .result) (c .before .before .message-refusal .ensures) (c .before .if1 .taken))))
+    rw (c .refused .ensures) (sym (wrap-refused records lake lakeF (a .session) (message (a .text .now) (a .meta .now) (a .forget)) (a .out .now) (a .tag .now) (c .before .before .message-refusal .result) (c .before .before .message-refusal .ensures) (c .before .if1 .taken)))
 
 lake-rates-requires : tie.Need-lake-rates-requires
 lake-rates-requires c κs = search needs
@@ -31,13 +30,13 @@ lake-rates-requires c κs = search needs
 message-requires : tie.Need-message-requires
 message-requires c κs =
     let a = c .before .before .before .before .before .before .before .before .before .args in
-    let k = message-allowed (viewOf (a .session)) (length (a .text .now)) (length (a .meta .now)) (length (a .out .now)) (length (a .tag .now)) (c .before .before .before .before .message-refusal .result) (c .before .before .before .before .message-refusal .ensures) (c .before .before .before .if1 .left) in
-    ((c .before .lake-rates .ensures, live-fits lake lake-sound (viewOf (a .session)) (k .session), live-lane 8 refl refl (viewOf (a .session)) (k .session), k .output), (k .text, k .meta))
+    let k = message-allowed (a .session .phase) (a .session .at) (length (a .text .now)) (length (a .meta .now)) (length (a .out .now)) (length (a .tag .now)) (c .before .before .before .before .message-refusal .result) (c .before .before .before .before .message-refusal .ensures) (c .before .before .before .if1 .left) in
+    ((c .before .lake-rates .ensures, live-fits lake lake-sound (a .session .phase) (a .session .at) (k .session), live-lane 8 refl refl (a .session .phase) (a .session .at) (k .session), k .output), (k .text, k .meta))
 
 squeeze-requires : tie.Need-squeeze-requires
 squeeze-requires c κs =
     let a = c .before .before .before .before .before .before .before .before .before .before .before .before .before .before .args in
-    let k = message-allowed (viewOf (a .session)) (length (a .text .now)) (length (a .meta .now)) (length (a .out .now)) (length (a .tag .now)) (c .before .before .before .before .before .before .before .before .before .message-refusal .result) (c .before .before .before .before .before .before .before .before .before .message-refusal .ensures) (c .before .before .before .before .before .before .before .before .if1 .left) in
+    let k = message-allowed (a .session .phase) (a .session .at) (length (a .text .now)) (length (a .meta .now)) (length (a .out .now)) (length (a .tag .now)) (c .before .before .before .before .before .before .before .before .before .message-refusal .result) (c .before .before .before .before .before .before .before .before .before .message-refusal .ensures) (c .before .before .before .before .before .before .before .before .if1 .left) in
     omega (arith, k .tag)
 
 done-requires : tie.Need-done-requires
@@ -53,8 +52,8 @@ returns-2 : tie.Need-returns-2
 returns-2 c =
     let a = c .before .before .before .before .before .before .before .before .before .before .before .before .before .before .before .before .before .before .args in
     let r = c .before .before .before .before .before .before .before .before .message in
-    let e = wrap-done lake lakeF (viewOf (a .session)) (message (a .text .now) (a .meta .now) (a .forget)) (a .out .now) (a .tag .now) (c .before .before .before .before .before .before .before .before .before .before .before .before .before .message-refusal .result) (c .before .before .before .before .before .before .before .before .before .before .before .before .before .message-refusal .ensures) (c .before .before .before .before .before .before .before .before .before .before .before .before .if1 .left) (bytes 8 (r .result .lanes)) (r .result .runs) _ _ (r .ensures .0) (r .ensures .1 .0) (r .ensures .1 .1) (c .before .before .before .squeeze .ensures) in
-    rw (c .done .ensures) (ap (λ (o : Outcome). (turn (a .session) o, o .out, o .tag)) (sym e))
+    let e = wrap-done records lake lakeF (a .session) (message (a .text .now) (a .meta .now) (a .forget)) (a .out .now) (a .tag .now) (c .before .before .before .before .before .before .before .before .before .before .before .before .before .message-refusal .result) (c .before .before .before .before .before .before .before .before .before .before .before .before .before .message-refusal .ensures) (c .before .before .before .before .before .before .before .before .before .before .before .before .if1 .left) (bytes 8 (r .result .lanes)) (r .result .runs) _ _ (r .ensures .0) (r .ensures .1 .0) (r .ensures .1 .1) (c .before .before .before .squeeze .ensures) in
+    rw (c .done .ensures) (sym e)
 
 pub wrap-spec : {M : Type 1} → statement M
 wrap-spec =

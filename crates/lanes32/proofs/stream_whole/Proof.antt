@@ -1,7 +1,7 @@
 -- The proof that `lanes32::stream_whole` meets its contract.
 use mathlib.Core.Path.{_≡_, refl, sym}
 use mathlib.Core.List.{_++_}
-use Prim.Native.Nat.{_+_, _*_, _-_, _≤_, _^_}
+use Prim.Native.Nat.{_+_, _*_, _-_, _≤_}
 use native.Mathlib.Omega.{arith}
 use lib.ListN.{length, take, drop}
 use Rattle.keccak.specs.State.{bytes}

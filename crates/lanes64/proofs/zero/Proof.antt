@@ -2,7 +2,6 @@
 use mathlib.Core.Path.{refl}
 use Rattle.endian.specs.Little.{toBytes}
 use Rattle.keccak.specs.State.{bytes}
-use borrow.Author.Needs.{needs}
 use Rattle.lanes64.proofs.zero.Statement.{statement}
 use Rattle.lanes64.proofs.zero.Tie as tie
 

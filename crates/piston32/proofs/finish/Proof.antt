@@ -1,5 +1,5 @@
 -- The proof that `piston32::finish` meets its contract.
-use mathlib.Core.Path.{_≡_, ap, _∙_}
+use mathlib.Core.Path.{ap, _∙_}
 use native.Mathlib.Omega.{arith}
 use Rattle.motorist.specs.Keyak.{riverF}
 use Rattle.piston32.proofs.Numbers.{room, full-lane}

@@ -1,5 +1,5 @@
 -- The proof that `piston64::finish` meets its contract.
-use mathlib.Core.Path.{_≡_, ap, _∙_}
+use mathlib.Core.Path.{ap, _∙_}
 use native.Mathlib.Omega.{arith}
 use Rattle.motorist.specs.Keyak.{lakeF}
 use Rattle.piston64.proofs.Numbers.{room, full-lane}

@@ -1,5 +1,5 @@
 -- The proof that `river::start` meets its contract.
-use mathlib.Core.Path.{_≡_, refl, sym, ap, _∙_}
+use mathlib.Core.Path.{_≡_, refl, sym, _∙_}
 use native.Mathlib.Omega.{arith}
 use lib.ListN.{length}
 use Rattle.keccak.specs.State.{bytes}
@@ -7,9 +7,8 @@ use Rattle.motorist.specs.Instance.{river}
 use Rattle.motorist.specs.Keyak.{riverF}
 use borrow.Author.Needs.{needs}
 use Rattle.table.specs.declared.StartTag.the-variants.{None, Produced, Checked}
-use Rattle.calls.specs.Outcome.{Outcome}
 use Rattle.calls.proofs.Meets.{start-allowed, start-refused, start-untagged, start-produced, start-right, start-wrong}
-use Rattle.river.specs.River.{unstarted, turn}
+use Rattle.river.specs.River.{records}
 use Rattle.river.proofs.start.Statement.{statement}
 use Rattle.river.proofs.start.Tie as tie
 
@@ -25,7 +24,7 @@ refused-requires c κs = search needs
 returns : tie.Need-returns
 returns c =
     let a = c .before .before .before .before .before .before .before .args in
-    rw (c .refused .ensures, c .before .unstarted .ensures) (ap (λ (o : Outcome). (turn unstarted o, o .tag)) (sym (start-refused river riverF (a .key .now) (a .nonce .now) (a .forget) (a .choice) (a .tag .now) (c .before .before .before .start-refusal .result) (c .before .before .before .start-refusal .ensures) (c .before .before .if1 .taken))))
+    rw (c .refused .ensures, c .before .unstarted .ensures) (sym (start-refused records river riverF (a .key .now) (a .nonce .now) (a .forget) (a .choice) (a .tag .now) (c .before .before .before .start-refusal .result) (c .before .before .before .start-refusal .ensures) (c .before .before .if1 .taken)))
 
 is-asked-requires : tie.Need-is-asked-requires
 is-asked-requires c κs = search needs
@@ -76,8 +75,8 @@ returns-2 c =
     let r = c .before .before .before .before .before .before .before .start in
     let v : a .choice ≡ Checked = search needs in
     let q = c .before .before .before .before .before .before .before .before .before .is-asked .ensures in
-    let e = start-right river riverF (a .key .now) (a .nonce .now) (a .forget) (a .choice) (a .tag .now) (c .before .before .before .before .before .before .before .before .before .before .before .start-refusal .result) (c .before .before .before .before .before .before .before .before .before .before .before .start-refusal .ensures) (c .before .before .before .before .before .before .before .before .before .before .if1 .left) (bytes 4 (r .result .lanes)) (r .result .runs) v (rw q at (r .ensures .0)) (rw q at (r .ensures .1)) (sym (c .before .before .tag-is .ensures) ∙ c .before .if2 .taken) in
-    rw (c .done3 .ensures) (ap (λ (o : Outcome). (turn unstarted o, o .tag)) (sym e))
+    let e = start-right records river riverF (a .key .now) (a .nonce .now) (a .forget) (a .choice) (a .tag .now) (c .before .before .before .before .before .before .before .before .before .before .before .start-refusal .result) (c .before .before .before .before .before .before .before .before .before .before .before .start-refusal .ensures) (c .before .before .before .before .before .before .before .before .before .before .if1 .left) (bytes 4 (r .result .lanes)) (r .result .runs) v (rw q at (r .ensures .0)) (rw q at (r .ensures .1)) (sym (c .before .before .tag-is .ensures) ∙ c .before .if2 .taken) in
+    rw (c .done3 .ensures) (sym e)
 
 failed-requires : tie.Need-failed-requires
 failed-requires c κs = search needs
@@ -91,8 +90,8 @@ returns-3 c =
     let r = c .before .before .before .before .start in
     let v : a .choice ≡ None = search needs in
     let q = c .before .before .before .before .before .before .is-asked .ensures in
-    let e = start-untagged river riverF (a .key .now) (a .nonce .now) (a .forget) (a .choice) (a .tag .now) (c .before .before .before .before .before .before .before .before .start-refusal .result) (c .before .before .before .before .before .before .before .before .start-refusal .ensures) (c .before .before .before .before .before .before .before .if1 .left) (bytes 4 (r .result .lanes)) (r .result .runs) v (rw q at (r .ensures .0)) (rw q at (r .ensures .1)) in
-    rw (c .done .ensures) (ap (λ (o : Outcome). (turn unstarted o, o .tag)) (sym e))
+    let e = start-untagged records river riverF (a .key .now) (a .nonce .now) (a .forget) (a .choice) (a .tag .now) (c .before .before .before .before .before .before .before .before .start-refusal .result) (c .before .before .before .before .before .before .before .before .start-refusal .ensures) (c .before .before .before .before .before .before .before .if1 .left) (bytes 4 (r .result .lanes)) (r .result .runs) v (rw q at (r .ensures .0)) (rw q at (r .ensures .1)) in
+    rw (c .done .ensures) (sym e)
 
 same-length-2 : tie.Need-same-length-2
 same-length-2 c = search needs
@@ -103,8 +102,8 @@ returns-4 c =
     let r = c .before .before .before .before .before .before .before .before .start in
     let v : a .choice ≡ Produced = search needs in
     let q = c .before .before .before .before .before .before .before .before .before .before .is-asked .ensures in
-    let e = start-produced river riverF (a .key .now) (a .nonce .now) (a .forget) (a .choice) (a .tag .now) (c .before .before .before .before .before .before .before .before .before .before .before .before .start-refusal .result) (c .before .before .before .before .before .before .before .before .before .before .before .before .start-refusal .ensures) (c .before .before .before .before .before .before .before .before .before .before .before .if1 .left) (bytes 4 (r .result .lanes)) (r .result .runs) _ v (rw q at (r .ensures .0)) (rw q at (r .ensures .1)) (c .before .before .before .squeeze .ensures) in
-    rw (c .done2 .ensures) (ap (λ (o : Outcome). (turn unstarted o, o .tag)) (sym e))
+    let e = start-produced records river riverF (a .key .now) (a .nonce .now) (a .forget) (a .choice) (a .tag .now) (c .before .before .before .before .before .before .before .before .before .before .before .before .start-refusal .result) (c .before .before .before .before .before .before .before .before .before .before .before .before .start-refusal .ensures) (c .before .before .before .before .before .before .before .before .before .before .before .if1 .left) (bytes 4 (r .result .lanes)) (r .result .runs) _ v (rw q at (r .ensures .0)) (rw q at (r .ensures .1)) (c .before .before .before .squeeze .ensures) in
+    rw (c .done2 .ensures) (sym e)
 
 same-length-3 : tie.Need-same-length-3
 same-length-3 c = search needs
@@ -115,8 +114,8 @@ returns-5 c =
     let r = c .before .before .before .before .before .before .before .before .start in
     let v : a .choice ≡ Checked = search needs in
     let q = c .before .before .before .before .before .before .before .before .before .before .is-asked .ensures in
-    let e = start-wrong river riverF (a .key .now) (a .nonce .now) (a .forget) (a .choice) (a .tag .now) (c .before .before .before .before .before .before .before .before .before .before .before .before .start-refusal .result) (c .before .before .before .before .before .before .before .before .before .before .before .before .start-refusal .ensures) (c .before .before .before .before .before .before .before .before .before .before .before .if1 .left) (bytes 4 (r .result .lanes)) (r .result .runs) v (rw q at (r .ensures .0)) (sym (c .before .before .before .tag-is .ensures) ∙ c .before .before .if2 .left) in
-    rw (c .refused2 .ensures, c .before .failed .ensures) (ap (λ (o : Outcome). (turn unstarted o, o .tag)) (sym e))
+    let e = start-wrong records river riverF (a .key .now) (a .nonce .now) (a .forget) (a .choice) (a .tag .now) (c .before .before .before .before .before .before .before .before .before .before .before .before .start-refusal .result) (c .before .before .before .before .before .before .before .before .before .before .before .before .start-refusal .ensures) (c .before .before .before .before .before .before .before .before .before .before .before .if1 .left) (bytes 4 (r .result .lanes)) (r .result .runs) v (rw q at (r .ensures .0)) (sym (c .before .before .before .tag-is .ensures) ∙ c .before .before .if2 .left) in
+    rw (c .refused2 .ensures, c .before .failed .ensures) (sym e)
 
 pub start-spec : {M : Type 1} → statement M
 start-spec =

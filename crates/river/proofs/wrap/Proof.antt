@@ -1,15 +1,14 @@
 -- The proof that `river::wrap` meets its contract.
-use mathlib.Core.Path.{_≡_, refl, sym, ap, _∙_}
+use mathlib.Core.Path.{refl, sym}
 use native.Mathlib.Omega.{arith}
 use lib.ListN.{length}
 use Rattle.keccak.specs.State.{bytes}
 use Rattle.motorist.specs.Instance.{river}
 use Rattle.motorist.specs.Keyak.{riverF}
 use Rattle.motorist.proofs.Instances.{river-sound}
-use Rattle.calls.specs.Outcome.{Outcome}
 use Rattle.calls.proofs.Allowed.{live-fits, live-lane}
 use Rattle.calls.proofs.Meets.{message-allowed, wrap-refused, wrap-done}
-use Rattle.river.specs.River.{viewOf, message, turn}
+use Rattle.river.specs.River.{records, message}
 use borrow.Author.Needs.{needs}
 use Rattle.river.proofs.wrap.Statement.{statement}
 use Rattle.river.proofs.wrap.Tie as tie
@@ -23,7 +22,7 @@ refused-requires c κs = search needs
 returns : tie.Need-returns
 returns c =
     let a = c .before .before .before .before .before .before .before .args in
-    rw (c .refused .ensures) (ap (λ (o : Outcome). (turn (a .session) o, o .out, o .tag)) (sym (wrap-refused river riverF (viewOf (a .session)) (message (a .text .now) (a .meta .now) (a .forget)) (a .out .now) (a .tag .now) (c .before .before .message-refusal .result) (c .before .before .message-refusal .ensures) (c .before .if1 .taken))))
+    rw (c .refused .ensures) (sym (wrap-refused records river riverF (a .session) (message (a .text .now) (a .meta .now) (a .forget)) (a .out .now) (a .tag .now) (c .before .before .message-refusal .result) (c .before .before .message-refusal .ensures) (c .before .if1 .taken)))
 
 river-rates-requires : tie.Need-river-rates-requires
 river-rates-requires c κs = search needs
@@ -31,13 +30,13 @@ river-rates-requires c κs = search needs
 message-requires : tie.Need-message-requires
 message-requires c κs =
     let a = c .before .before .before .before .before .before .before .before .before .args in
-    let k = message-allowed (viewOf (a .session)) (length (a .text .now)) (length (a .meta .now)) (length (a .out .now)) (length (a .tag .now)) (c .before .before .before .before .message-refusal .result) (c .before .before .before .before .message-refusal .ensures) (c .before .before .before .if1 .left) in
-    ((c .before .river-rates .ensures, live-fits river river-sound (viewOf (a .session)) (k .session), live-lane 4 refl refl (viewOf (a .session)) (k .session), k .output), (k .text, k .meta))
+    let k = message-allowed (a .session .phase) (a .session .at) (length (a .text .now)) (length (a .meta .now)) (length (a .out .now)) (length (a .tag .now)) (c .before .before .before .before .message-refusal .result) (c .before .before .before .before .message-refusal .ensures) (c .before .before .before .if1 .left) in
+    ((c .before .river-rates .ensures, live-fits river river-sound (a .session .phase) (a .session .at) (k .session), live-lane 4 refl refl (a .session .phase) (a .session .at) (k .session), k .output), (k .text, k .meta))
 
 squeeze-requires : tie.Need-squeeze-requires
 squeeze-requires c κs =
     let a = c .before .before .before .before .before .before .before .before .before .before .before .before .before .before .args in
-    let k = message-allowed (viewOf (a .session)) (length (a .text .now)) (length (a .meta .now)) (length (a .out .now)) (length (a .tag .now)) (c .before .before .before .before .before .before .before .before .before .message-refusal .result) (c .before .before .before .before .before .before .before .before .before .message-refusal .ensures) (c .before .before .before .before .before .before .before .before .if1 .left) in
+    let k = message-allowed (a .session .phase) (a .session .at) (length (a .text .now)) (length (a .meta .now)) (length (a .out .now)) (length (a .tag .now)) (c .before .before .before .before .before .before .before .before .before .message-refusal .result) (c .before .before .before .before .before .before .before .before .before .message-refusal .ensures) (c .before .before .before .before .before .before .before .before .if1 .left) in
     omega (arith, k .tag)
 
 done-requires : tie.Need-done-requires
@@ -53,8 +52,8 @@ returns-2 : tie.Need-returns-2
 returns-2 c =
     let a = c .before .before .before .before .before .before .before .before .before .before .before .before .before .before .before .before .before .before .args in
     let r = c .before .before .before .before .before .before .before .before .message in
-    let e = wrap-done river riverF (viewOf (a .session)) (message (a .text .now) (a .meta .now) (a .forget)) (a .out .now) (a .tag .now) (c .before .before .before .before .before .before .before .before .before .before .before .before .before .message-refusal .result) (c .before .before .before .before .before .before .before .before .before .before .before .before .before .message-refusal .ensures) (c .before .before .before .before .before .before .before .before .before .before .before .before .if1 .left) (bytes 4 (r .result .lanes)) (r .result .runs) _ _ (r .ensures .0) (r .ensures .1 .0) (r .ensures .1 .1) (c .before .before .before .squeeze .ensures) in
-    rw (c .done .ensures) (ap (λ (o : Outcome). (turn (a .session) o, o .out, o .tag)) (sym e))
+    let e = wrap-done records river riverF (a .session) (message (a .text .now) (a .meta .now) (a .forget)) (a .out .now) (a .tag .now) (c .before .before .before .before .before .before .before .before .before .before .before .before .before .message-refusal .result) (c .before .before .before .before .before .before .before .before .before .before .before .before .before .message-refusal .ensures) (c .before .before .before .before .before .before .before .before .before .before .before .before .if1 .left) (bytes 4 (r .result .lanes)) (r .result .runs) _ _ (r .ensures .0) (r .ensures .1 .0) (r .ensures .1 .1) (c .before .before .before .squeeze .ensures) in
+    rw (c .done .ensures) (sym e)
 
 pub wrap-spec : {M : Type 1} → statement M
 wrap-spec =

@@ -11,7 +11,7 @@ use Rattle.motorist.specs.Piston.{Bytes}
 use Rattle.motorist.specs.Engine.{Ride}
 use Rattle.motorist.specs.Motorist.{Start, taken, start, message}
 use Rattle.motorist.specs.Session.{Step, step, Steps, steps}
-use Rattle.calls.specs.Session.{Session}
+use Rattle.calls.specs.Session.{View, Records}
 use Rattle.calls.specs.Outcome.{Outcome}
 use Rattle.calls.specs.Chain.{Call, Opening, outcomes, openingOf, begins}
 
@@ -20,23 +20,23 @@ abbrev pub textLength : Call → ℕ
 textLength c = length (c .message .text)
 
 -- what the call c put out, its outcome being o: as many bytes as the text has
-abbrev pub putOut : Call → Outcome → Bytes
+abbrev pub putOut : {R : Type 0} → Call → Outcome R → Bytes
 putOut c o = take (textLength c) (o .out)
 
--- the definition's ride of the call c on the session x: the one that wrapOf and unwrapOf name
-abbrev pub rideOf : (i : Instance) (f : Bytes → Bytes) → Session → Call → Ride
-rideOf i f x c = message i f (c .decrypt) (x .state ∷ []) (x .at) (c .message)
+-- the definition's ride of the call c on a session that shows v: the one that wrapOf and unwrapOf name
+abbrev pub rideOf : (i : Instance) (f : Bytes → Bytes) → View → Call → Ride
+rideOf i f v c = message i f (c .decrypt) (v .state ∷ []) (v .at) (c .message)
 
 -- ---- a chain
 -- all are done
-abbrev pub AllDone : List Outcome → Type 0
+abbrev pub AllDone : {R : Type 0} → List (Outcome R) → Type 0
 AllDone [] = Unit {0}
 AllDone (o ∷ os) = (o .answer .number ≡ done) × AllDone os
 
 -- a start and then calls, each on the session that the one before left, and none refused
-pub record Unrefused (i : Instance) (f : Bytes → Bytes) (a : Opening) (cs : List Call) : Type 0 where
-  pub start : openingOf i f a .answer .number ≡ done
-  pub calls : AllDone (outcomes i f (begins i f a) cs)
+pub record Unrefused {R : Type 0} (K : Records R) (i : Instance) (f : Bytes → Bytes) (a : Opening) (cs : List Call) : Type 0 where
+  pub start : openingOf K i f a .answer .number ≡ done
+  pub calls : AllDone (outcomes K i f (begins K i f a) cs)
 
 -- ---- in motorist's words
 abbrev pub startIn : Opening → Start
@@ -54,8 +54,8 @@ abbrev pub textStart : ℕ → List Call → ℕ
 textStart at [] = at
 textStart at (c ∷ cs) = tagLength
 
--- the session x is under way in the one state after the steps y, the next text from n on
-pub record Stands (x : Session) (y : Steps) (n : ℕ) : Type 0 where
-  pub phase : x .phase ≡ Riding
-  pub states : x .state ∷ [] ≡ y .states
-  pub at : x .at ≡ n
+-- a session that shows v is under way in the one state after the steps y, the next text from n on
+pub record Stands (v : View) (y : Steps) (n : ℕ) : Type 0 where
+  pub phase : v .phase ≡ Riding
+  pub states : v .state ∷ [] ≡ y .states
+  pub at : v .at ≡ n

@@ -1,0 +1,222 @@
+-- The three demands, as statements over any kind of record that serves an instance: what proofs/ proves, and what Lake and River promise.
+use mathlib.Core.Path.{_≡_}
+use mathlib.Core.Bool.{Bool, true, false, not, _&&_}
+use mathlib.Core.List.{List, [], _∷_, _++_, map}
+use Prim.Native.Nat.{ℕ, suc, _+_, _≤_}
+use lib.ListN.{length, drop, replicate}
+use Rattle.table.specs.Numbers.{done, not-started, tag-differs}
+use Rattle.table.specs.Refusals.{Rule, rule, Exact}
+use Rattle.table.specs.Choices.{asked}
+use Rattle.table.specs.declared.StartTag.{StartTag}
+use Rattle.table.specs.declared.StartTag.the-variants.{None, Produced, Checked}
+use Rattle.slices.specs.Same.{sameBytes}
+use Rattle.motorist.specs.Instance.{Instance, tagLength}
+use Rattle.motorist.specs.Piston.{Bytes}
+use Rattle.motorist.specs.Engine.{Blocks, Ride, run}
+use Rattle.motorist.specs.Motorist.{Message, taken, tag, fresh, start, wrap, unwrap, message}
+use Rattle.motorist.specs.Session.{Step, partnerOf, plaintextOf, withText, Steps}
+use Rattle.calls.specs.Session.{View, Records}
+use Rattle.calls.specs.Outcome.{Outcome, answer, refused, wrapRules, openRules, wrapped, begun, wrapOf, unwrapOf}
+use Rattle.calls.specs.Chain.{Call, Opening, callOf, outcomes, endOf, openingOf, begins}
+use Rattle.calls.specs.Words.{textLength, putOut, rideOf, Unrefused, startIn, stepOf, defined, textStart, Stands}
+
+-- ---- demand 1: the conditions of an unwrap and of a start end with this one, that the tag differs
+abbrev pub tagRule : Bool → List Rule
+tagRule differs = rule differs tag-differs ∷ []
+
+-- a start that checks a tag
+abbrev pub checks : StartTag → Bool
+checks None = false
+checks Produced = false
+checks Checked = true
+
+module _ (i : Instance) (f : Bytes → Bytes) where
+  abbrev pub unwrapDiffers : View → Message → Bytes → Bool
+  unwrapDiffers v c g = not (sameBytes (tag (unwrap i f (v .state ∷ []) (v .at) c .states)) g)
+
+  abbrev pub startDiffers : Opening → Bool
+  startDiffers a = checks (a .choice) && not (sameBytes (tag (start i f (startIn a) .states)) (a .tag))
+
+  abbrev pub unwrapRules : View → Message → (g out : Bytes) → List Rule
+  unwrapRules v c g out = wrapRules v c out g ++ tagRule (unwrapDiffers v c g)
+
+  abbrev pub openingRules : Opening → List Rule
+  openingRules a = openRules (a .key) (a .nonce) (a .choice) (a .tag) ++ tagRule (startDiffers a)
+
+-- the tag buffer g after a start: where a tag is asked, the tag
+abbrev pub held : Bool → Ride → Bytes → Bytes
+held true r g = tag (r .states)
+held false r g = g
+
+-- a call that is refused as on a session that was not started: 1, nothing written, no run, session and buffers as they were
+abbrev pub turnedAway : {R : Type 0} → R → Call → Outcome R
+turnedAway x c = refused not-started x (c .out) (c .tag)
+
+-- what each answer leaves of the session x and of every lent byte, where r is the definition's ride
+module _ {R : Type 0} (K : Records R) where
+  -- a wrap: if it is refused, the session and all buffers as they were, nothing written and no run; else what the ride gives
+  pub record WrapLeaves (o : Outcome R) (x : R) (r : Ride) (t : ℕ) (out g : Bytes) : Type 0 where
+    pub refusal : (n : ℕ) → o .answer .number ≡ suc n → o ≡ refused (suc n) x out g
+    pub done : o .answer .number ≡ done → o ≡ wrapped K r t out
+
+  -- an unwrap: likewise, and what the ride gives has the tag that was given; but if the tag differs,
+  -- the failed record and zeros over the text's length, nothing written and no run; the tag that was given stays in any case
+  pub record UnwrapLeaves (o : Outcome R) (x : R) (r : Ride) (t : ℕ) (out g : Bytes) : Type 0 where
+    pub refusal : (n : ℕ) → (suc n ≡ tag-differs → ⊥) → o .answer .number ≡ suc n → o ≡ refused (suc n) x out g
+    pub differs : o .answer .number ≡ tag-differs → o ≡ record { answer = answer tag-differs 0 0; session = K .failed; out = replicate t 0 ++ drop t out; tag = g }
+    pub done : o .answer .number ≡ done → o ≡ wrapped K r t out
+    pub kept : o .tag ≡ g
+
+  -- a start: if it is refused, the unstarted record; but if the tag differs, the failed one; else the session that the ride gives;
+  -- without a tag, or checking one, it leaves the tag buffer as it was in any case
+  pub record StartLeaves (o : Outcome R) (choice : StartTag) (r : Ride) (g : Bytes) : Type 0 where
+    pub refusal : (n : ℕ) → (suc n ≡ tag-differs → ⊥) → o .answer .number ≡ suc n → o ≡ refused (suc n) (K .unstarted) [] g
+    pub differs : o .answer .number ≡ tag-differs → o ≡ refused tag-differs (K .failed) [] g
+    pub done : o .answer .number ≡ done → o ≡ begun K r (taken (asked choice)) (held (asked choice) r g)
+    pub kept : (choice ≡ Produced → ⊥) → o .tag ≡ g
+
+module _ {R : Type 0} (K : Records R) (i : Instance) (f : Bytes → Bytes) where
+  -- whatever wraps and unwraps are tried on the record x, each answers 1, and leaves that very record and every buffer as it was
+  pub record Closed (x : R) : Type 0 where
+    pub answers : (cs : List Call) → outcomes K i f x cs ≡ map (turnedAway x) cs
+    pub session : (cs : List Call) → endOf K i f x cs ≡ x
+
+  pub record Total : Type 0 where
+    -- a number is answered exactly when its condition holds and none before it does, and 0 exactly when none does
+    pub wrap-exactly : (x : R) (m : Message) (out g : Bytes) → Exact (wrapOf K i f x m out g .answer .number) (wrapRules (K .shows x) m out g)
+    pub unwrap-exactly : (x : R) (c : Message) (g out : Bytes) → Exact (unwrapOf K i f x c g out .answer .number) (unwrapRules i f (K .shows x) c g out)
+    pub start-exactly : (a : Opening) → Exact (openingOf K i f a .answer .number) (openingRules i f a)
+    -- what each answer leaves
+    pub wrap-leaves : (x : R) (m : Message) (out g : Bytes)
+        → WrapLeaves K (wrapOf K i f x m out g) x (wrap i f (K .shows x .state ∷ []) (K .shows x .at) m) (length (m .text)) out g
+    pub unwrap-leaves : (x : R) (c : Message) (g out : Bytes)
+        → UnwrapLeaves K (unwrapOf K i f x c g out) x (unwrap i f (K .shows x .state ∷ []) (K .shows x .at) c) (length (c .text)) out g
+    pub start-leaves : (a : Opening) → StartLeaves K (openingOf K i f a) (a .choice) (start i f (startIn a)) (a .tag)
+    -- a wrong tag closes the session for good; so does a start that checks one. A session that was not started, or with a text start that there is not, is closed
+    pub call-closes : (x : R) (c : Call) → callOf K i f x c .answer .number ≡ tag-differs → Closed (callOf K i f x c .session)
+    pub start-closes : (a : Opening) → openingOf K i f a .answer .number ≡ tag-differs → Closed (begins K i f a)
+    pub unstarted-closed : Closed (K .unstarted)
+    pub elsewhere-closed : (x : R) → (K .shows x .at ≡ 0 → ⊥) → (K .shows x .at ≡ tagLength → ⊥) → Closed x
+
+-- ---- demand 2, first half: every step is the definition's
+-- the steps y, and behind them the step x, whose ride is r
+abbrev pub andThen : Steps → Step → Ride → Steps
+andThen y x r =
+    record {
+      partner = y .partner ++ (partnerOf x (r .output) ∷ []);
+      messages = y .messages ++ (plaintextOf x (r .output) ∷ []);
+      tags = y .tags ++ (tag (r .states) ∷ []);
+      blocks = y .blocks ++ r .blocks;
+      states = r .states;
+    }
+
+module _ {R : Type 0} (K : Records R) (i : Instance) (f : Bytes → Bytes) where
+  -- the definition's ride of the call c behind the calls of front
+  abbrev pub rideAt : Opening → List Call → Call → Ride
+  rideAt a front c = message i f (c .decrypt) (defined i f a front .states) (textStart (taken (asked (a .choice))) front) (c .message)
+
+  pub record RightAt (a : Opening) (front : List Call) (c : Call) : Type 0 where
+    -- with that ride as its last step, the definition goes from front to front and c
+    pub definition : defined i f a (front ++ (c ∷ [])) ≡ andThen (defined i f a front) (stepOf c) (rideAt a front c)
+    -- the call is made on the definition's session, and gives what the ride gives; of its output, the bytes beyond the text stay
+    pub session : Stands (K .shows (endOf K i f (begins K i f a) front)) (defined i f a front) (textStart (taken (asked (a .choice))) front)
+    pub outcome : callOf K i f (endOf K i f (begins K i f a) front) c ≡ wrapped K (rideAt a front c) (textLength c) (c .out)
+
+  pub record Right : Type 0 where
+    pub start : (a : Opening) → openingOf K i f a .answer .number ≡ done
+        → openingOf K i f a ≡ begun K (start i f (startIn a)) (taken (asked (a .choice))) (held (asked (a .choice)) (start i f (startIn a)) (a .tag))
+    -- in every chain of which none is refused, at the call c behind any front of it
+    pub steps : (a : Opening) (front : List Call) (c : Call) (back : List Call) → Unrefused K i f a (front ++ (c ∷ back)) → RightAt a front c
+
+-- ---- demand 2, the partner: another side that starts alike and unwraps every message of the first side
+-- of a step that put out the bytes o, the message in ciphertext
+abbrev pub cryptogramOf : Step → Bytes → Message
+cryptogramOf x o = elim (x .decrypt) [ true ↦ x .message | false ↦ withText o (x .message) ]
+
+-- the partner's call: it unwraps the ciphertext of the call c, whose outcome is o, with the tag that c produced or was given
+abbrev pub hearing : {R : Type 0} → Call → Outcome R → Bytes → Call
+hearing c o out = record { decrypt = true; message = cryptogramOf (stepOf c) (putOut c o); out = out; tag = o .tag }
+
+-- the call p is such a call, its output no shorter than the text
+pub record Hears {R : Type 0} (c : Call) (o : Outcome R) (p : Call) : Type 0 where
+  pub call : p ≡ hearing c o (p .out)
+  pub room : textLength c ≤ length (p .out)
+
+module _ {R : Type 0} (K : Records R) (i : Instance) (f : Bytes → Bytes) where
+  -- what holds of two chains at every step, one beside the other: P of the sessions and the calls there
+  abbrev pub Beside : (R → Call → R → Call → Type 0) → R → List Call → R → List Call → Type 0
+  Beside P x [] y [] = Unit {0}
+  Beside P x [] y (p ∷ ps) = ⊥
+  Beside P x (c ∷ cs) y [] = ⊥
+  Beside P x (c ∷ cs) y (p ∷ ps) = P x c y p × Beside P (callOf K i f x c .session) cs (callOf K i f y p .session) ps
+
+  -- the partner is given what the first side put out, or was given
+  abbrev pub Given : R → Call → R → Call → Type 0
+  Given x c y p = Hears c (callOf K i f x c) p
+
+  -- the partner's call answers as the first side's did: the number, the bytes written and the runs; it gives the plaintext; the records after are equal
+  pub record Agree (x : R) (c : Call) (y : R) (p : Call) : Type 0 where
+    pub answer : callOf K i f y p .answer ≡ callOf K i f x c .answer
+    pub plaintext : callOf K i f y p .out ≡ plaintextOf (stepOf c) (putOut c (callOf K i f x c)) .text ++ drop (textLength c) (p .out)
+    pub session : callOf K i f y p .session ≡ callOf K i f x c .session
+
+  -- the partner's start: key, nonce and choices alike; a tag buffer that it is to fill has 16 bytes, and a tag that it is to check is the first side's
+  pub record StartsAlike (a p : Opening) : Type 0 where
+    pub key : p .key ≡ a .key
+    pub nonce : p .nonce ≡ a .nonce
+    pub forgets : p .forgets ≡ a .forgets
+    pub tagged : asked (p .choice) ≡ asked (a .choice)
+    pub lent : p .choice ≡ Produced → length (p .tag) ≡ tagLength
+    pub given : p .choice ≡ Checked → p .tag ≡ openingOf K i f a .tag
+
+  pub record Partnered (a : Opening) (cs : List Call) (p : Opening) (ps : List Call) : Type 0 where
+    -- every call of the partner answers 0
+    pub unrefused : Unrefused K i f p ps
+    -- the records are equal from the start on; and at every step they are, and the plaintext is given
+    pub start : begins K i f p ≡ begins K i f a
+    pub steps : Beside Agree (begins K i f a) cs (begins K i f p) ps
+
+  abbrev pub Partner : Type 0
+  Partner = (a : Opening) (cs : List Call) (p : Opening) (ps : List Call) → Unrefused K i f a cs → StartsAlike a p
+      → Beside Given (begins K i f a) cs (begins K i f p) ps → Partnered a cs p ps
+
+-- ---- demand 3: the blocks tell the whole story
+-- the runs that calls answer, all together
+abbrev pub allRuns : {R : Type 0} → List (Outcome R) → ℕ
+allRuns [] = 0
+allRuns (o ∷ os) = o .answer .runs + allRuns os
+
+module _ {R : Type 0} (K : Records R) (i : Instance) (f : Bytes → Bytes) where
+  -- the blocks of calls: those of each one's ride, whose number the call answers as its runs
+  abbrev pub ridden : R → List Call → List Blocks
+  ridden x [] = []
+  ridden x (c ∷ cs) = rideOf i f (K .shows x) c .blocks ++ ridden (callOf K i f x c .session) cs
+
+  -- the blocks of a chain: those of its start, and of its calls
+  abbrev pub fed : Opening → List Call → List Blocks
+  fed a cs = start i f (startIn a) .blocks ++ ridden (begins K i f a) cs
+
+  -- the messages of calls in plaintext, as it was given or put out
+  abbrev pub said : R → List Call → List Message
+  said x [] = []
+  said x (c ∷ cs) = plaintextOf (stepOf c) (putOut c (callOf K i f x c)) ∷ said (callOf K i f x c .session) cs
+
+  -- two chains that start alike and say the same; a message is its plaintext, its metadata and whether it is to be forgotten
+  pub record SameStory (a : Opening) (cs : List Call) (d : Opening) (ds : List Call) : Type 0 where
+    pub key : a .key ≡ d .key
+    pub nonce : a .nonce ≡ d .nonce
+    pub tagged : asked (a .choice) ≡ asked (d .choice)
+    pub forgets : a .forgets ≡ d .forgets
+    pub messages : said (begins K i f a) cs ≡ said (begins K i f d) ds
+
+  pub record Story : Type 0 where
+    -- equal lists, equal stories
+    pub told : (a : Opening) (cs : List Call) (d : Opening) (ds : List Call) → Unrefused K i f a cs → Unrefused K i f d ds → fed a cs ≡ fed d ds → SameStory a cs d ds
+    -- the record's bytes are the permutation run over that very list, from all zeros
+    pub state : (a : Opening) (cs : List Call) → Unrefused K i f a cs → K .shows (endOf K i f (begins K i f a) cs) .state ∷ [] ≡ run i f (fresh i) (fed a cs)
+    -- and the list has as many blocks as the calls answered runs
+    pub runs : (a : Opening) (cs : List Call) → Unrefused K i f a cs → openingOf K i f a .answer .runs + allRuns (outcomes K i f (begins K i f a) cs) ≡ length (fed a cs)
+    -- a list that is the front of another: the same start, and the messages are the front of the other's
+    pub front : (a : Opening) (cs : List Call) (d : Opening) (ds : List Call) (rest : List Blocks) → Unrefused K i f a cs → Unrefused K i f d ds
+        → fed a cs ++ rest ≡ fed d ds
+        → (startIn a ≡ startIn d) × ((others : List Message) × (said (begins K i f a) cs ++ others ≡ said (begins K i f d) ds))

@@ -9,6 +9,7 @@ ghost use Rattle.slices.specs.Same.{sameBytes};
 ghost use Rattle.motorist.specs.Instance.{tagLength};
 ghost use Rattle.calls.specs.Outcome.{answer};
 ghost use Rattle.lake.specs.Lake.{unstarted, failed, riding, outcome, message, wrapOf, unwrapOf, startOf};
+use lanes64::Lanes;
 use table::Answer;
 use table::Phase;
 use table::StartTag;
@@ -48,7 +49,7 @@ fn failed() -> Session
     }
 }
 
-fn riding(lanes: [u64; 25], at: usize) -> Session
+fn riding(lanes: Lanes, at: usize) -> Session
     ensures { λ r. ⌜ r ≡ riding (bytes 8 lanes) at ⌝ }
 {
     Session {
@@ -71,7 +72,7 @@ fn refused(number: u8, session: Session) -> Turn
 }
 
 // The session goes on with the lanes after a message or a start, its next text from `at` on.
-fn done(lanes: [u64; 25], at: usize, written: usize, runs: usize) -> Turn
+fn done(lanes: Lanes, at: usize, written: usize, runs: usize) -> Turn
     ensures { λ r. ⌜ r ≡ record { answer = answer done written runs; session = riding (bytes 8 lanes) at } ⌝ }
 {
     let answer = Answer {
@@ -138,7 +139,7 @@ pub fn unwrap(
 }
 
 // Whether the tag of these lanes is the one given; all its bytes are compared.
-fn tag_is(lanes: [u64; 25], tag: &[u8]) -> bool
+fn tag_is(lanes: Lanes, tag: &[u8]) -> bool
     ensures { λ r. ⌜ r ≡ sameBytes (take tagLength (bytes 8 lanes)) (now (tag .entry)) ⌝ }
 {
     let mut right = [0u8; 16];

@@ -8,7 +8,10 @@ ghost use Rattle.keccak.specs.State.{bytes};
 ghost use Rattle.motorist.specs.Piston.{xors, mask};
 ghost use Rattle.piston.specs.Placed.{placed};
 
-pub fn zero() -> [u64; 25]
+// The state in code: 25 lanes, lane (x, y) at 5y + x.
+pub type Lanes = [u64; 25];
+
+pub fn zero() -> Lanes
     ensures { λ r. ⌜ bytes 8 r ≡ replicate 200 0 ⌝ }
 {
     [0; 25]
@@ -16,7 +19,7 @@ pub fn zero() -> [u64; 25]
 
 // The first n lanes' worth of s xored in from lane q on. Where bytes go in, the lanes are changed in place: a copy for each run
 // of bytes would cost about a seventh of the speed.
-fn absorb_whole(lanes: &mut [u64; 25], q: usize, n: usize, s: &[u8])
+fn absorb_whole(lanes: &mut Lanes, q: usize, n: usize, s: &[u8])
     requires { ⌜ (length (now lanes) ≡ 25) × (q + n ≤ 25) × (8 * n ≤ length (now s)) ⌝ }
     ensures { λ r. ⌜ (length (now (lanes .exit)) ≡ 25) × (bytes 8 (now (lanes .exit)) ≡ xors (bytes 8 (now (lanes .entry))) (placed (8 * q) (take (8 * n) (now (s .entry))))) ⌝ }
 {
@@ -30,7 +33,7 @@ fn absorb_whole(lanes: &mut [u64; 25], q: usize, n: usize, s: &[u8])
 }
 
 // The bytes of s xored in from byte p on, which is the first of a lane.
-pub fn absorb(lanes: &mut [u64; 25], p: usize, s: &[u8])
+pub fn absorb(lanes: &mut Lanes, p: usize, s: &[u8])
     requires { ⌜ (length (now lanes) ≡ 25) × (p % 8 ≡ 0) × (p + length (now s) ≤ 200) ⌝ }
     ensures { λ r. ⌜ (length (now (lanes .exit)) ≡ 25) × (bytes 8 (now (lanes .exit)) ≡ xors (bytes 8 (now (lanes .entry))) (placed p (now (s .entry)))) ⌝ }
 {
@@ -44,7 +47,7 @@ pub fn absorb(lanes: &mut [u64; 25], p: usize, s: &[u8])
 }
 
 // The first n lanes' worth of s under the key stream from lane q on, into the front of out.
-fn stream_whole(lanes: [u64; 25], q: usize, n: usize, s: &[u8], out: &mut [u8])
+fn stream_whole(lanes: Lanes, q: usize, n: usize, s: &[u8], out: &mut [u8])
     requires { ⌜ (q + n ≤ 25) × (8 * n ≤ length (now s)) × (length (now out) ≡ length (now s)) ⌝ }
     ensures { λ r. ⌜ now (out .exit) ≡ mask (bytes 8 lanes) (8 * q) (take (8 * n) (now (s .entry))) ++ drop (8 * n) (now (out .entry)) ⌝ }
 {
@@ -58,7 +61,7 @@ fn stream_whole(lanes: [u64; 25], q: usize, n: usize, s: &[u8], out: &mut [u8])
 }
 
 // The bytes of s under the key stream from byte p on, which is the first of a lane.
-pub fn stream(lanes: [u64; 25], p: usize, s: &[u8], out: &mut [u8])
+pub fn stream(lanes: Lanes, p: usize, s: &[u8], out: &mut [u8])
     requires { ⌜ (p % 8 ≡ 0) × (p + length (now s) ≤ 200) × (length (now out) ≡ length (now s)) ⌝ }
     ensures { λ r. ⌜ now (out .exit) ≡ mask (bytes 8 lanes) p (now (s .entry)) ⌝ }
 {
@@ -72,7 +75,7 @@ pub fn stream(lanes: [u64; 25], p: usize, s: &[u8], out: &mut [u8])
 }
 
 // The first bytes of the state, as many as out has: zeros under the key stream.
-pub fn squeeze(lanes: [u64; 25], out: &mut [u8])
+pub fn squeeze(lanes: Lanes, out: &mut [u8])
     requires { ⌜ length (now out) ≤ 32 ⌝ }
     ensures { λ r. ⌜ now (out .exit) ≡ take (length (now (out .entry))) (bytes 8 lanes) ⌝ }
 {

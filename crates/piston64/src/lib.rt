@@ -11,11 +11,12 @@ ghost use Rattle.piston.specs.Placed.{placed};
 ghost use Rattle.plan.specs.Cut.{Fits, stepped};
 ghost use Rattle.rates.specs.Counts.{RatesOf};
 ghost use Rattle.motorist.specs.Keyak.{lakeF};
+use lanes64::Lanes;
 use plan::Cut;
 use rates::Rates;
 
 // A block's text: what is under the key stream goes to out, and the plaintext into the state.
-fn crypt(lanes: [u64; 25], at: usize, text: &[u8], out: &mut [u8], decrypt: bool) -> [u64; 25]
+fn crypt(lanes: Lanes, at: usize, text: &[u8], out: &mut [u8], decrypt: bool) -> Lanes
     requires { ⌜ (at % 8 ≡ 0) × (at + length (now text) ≤ 200) × (length (now out) ≡ length (now text)) ⌝ }
     ensures { λ r. ⌜ bytes 8 r ≡ xors (bytes 8 lanes) (placed at (plain decrypt (bytes 8 lanes) at (now (text .entry)))) ⌝ }
     ensures { λ r. ⌜ now (out .exit) ≡ mask (bytes 8 lanes) at (now (text .entry)) ⌝ }
@@ -31,7 +32,7 @@ fn crypt(lanes: [u64; 25], at: usize, text: &[u8], out: &mut [u8], decrypt: bool
 }
 
 // What ends every block: metadata, the four offset bytes at the full rate, and the permutation.
-fn finish(full: usize, lanes: [u64; 25], from: usize, meta: &[u8], offsets: [u8; 4]) -> [u64; 25]
+fn finish(full: usize, lanes: Lanes, from: usize, meta: &[u8], offsets: [u8; 4]) -> Lanes
     requires { ⌜ (full ≡ fullRate lake) × (from % 8 ≡ 0) × (from + length (now meta) ≤ 200) ⌝ }
     ensures { λ r. ⌜ bytes 8 r ≡ lakeF (xors (xors (bytes 8 lanes) (placed from (now (meta .entry)))) (placed (fullRate lake) offsets)) ⌝ }
 {
@@ -44,14 +45,14 @@ fn finish(full: usize, lanes: [u64; 25], from: usize, meta: &[u8], offsets: [u8;
 // One block of the message: the stretch of the text that the cut names goes into the same stretch of out.
 pub fn block(
     rates: Rates,
-    lanes: [u64; 25],
+    lanes: Lanes,
     cut: Cut,
     text: &[u8],
     meta: &[u8],
     eom: u8,
     out: &mut [u8],
     decrypt: bool,
-) -> [u64; 25]
+) -> Lanes
     requires { ⌜ (RatesOf lake rates) × (Fits lake 8 (length (now text)) (length (now meta)) (length (now out)) cut) ⌝ }
     ensures { λ r. ⌜ bytes 8 r ≡ stepped lake lakeF decrypt (bytes 8 lanes) (cut .at) (take (cut .textend - cut .text) (drop (cut .text) (now (text .entry)))) (cut .from) (take (cut .metaend - cut .meta) (drop (cut .meta) (now (meta .entry)))) eom ⌝ }
     ensures { λ r. ⌜ now (out .exit) ≡ take (cut .text) (now (out .entry)) ++ (mask (bytes 8 lanes) (cut .at) (take (cut .textend - cut .text) (drop (cut .text) (now (text .entry)))) ++ drop (cut .textend - cut .text) (drop (cut .text) (now (out .entry)))) ⌝ }
@@ -69,7 +70,7 @@ pub fn block(
 }
 
 // One block of metadata alone.
-pub fn inject(rates: Rates, lanes: [u64; 25], meta: &[u8], eom: u8) -> [u64; 25]
+pub fn inject(rates: Rates, lanes: Lanes, meta: &[u8], eom: u8) -> Lanes
     requires { ⌜ (RatesOf lake rates) × (length (now meta) ≤ fullRate lake) ⌝ }
     ensures { λ r. ⌜ bytes 8 r ≡ absorb lakeF (bytes 8 lanes) (block lake 0 [] 0 (now (meta .entry)) eom) ⌝ }
 {

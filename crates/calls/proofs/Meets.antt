@@ -20,7 +20,7 @@ use Rattle.table.proofs.Exact.{exact, not-done}
 use Rattle.slices.specs.Same.{sameBytes}
 use Rattle.motorist.specs.Instance.{Instance, Sound, tagLength}
 use Rattle.motorist.specs.Piston.{Bytes}
-use Rattle.motorist.specs.Engine.{Ride}
+use Rattle.motorist.specs.Engine.{Ride, Rode}
 use Rattle.motorist.specs.Motorist.{Message, start, message}
 use Rattle.calls.specs.Session.{View, Records}
 use Rattle.calls.proofs.Allowed.{Allowed, AllowedStart, allowed, allowed-start, live-fits}
@@ -56,31 +56,29 @@ module _ {R : Type 0} (K : Records R) (i : Instance) (f : Bytes → Bytes) (x : 
 
   -- ---- a message done: the state s, the runs n, the output o
   module _ (ok : why ≡ 0) (s : Bytes) (n : ℕ) (o : Bytes) where
-    pub wrap-done : (t : Bytes) → (let r : Ride = message i f false (v .state ∷ []) (v .at) m in
-        (s ∷ [] ≡ r .states) → (o ≡ r .output ++ drop (length (m .text)) out) → (n ≡ length (r .blocks)) → t ≡ take (length g) s
-        → wrapOf K i f x m out g ≡ record { answer = answer done (length (m .text)) n; session = K .riding s tagLength; out = o; tag = t })
+    pub wrap-done : (t : Bytes) → Rode (message i f false (v .state ∷ []) (v .at) m) (length (m .text)) out s o n → t ≡ take (length g) s
+        → wrapOf K i f x m out g ≡ record { answer = answer done (length (m .text)) n; session = K .riding s tagLength; out = o; tag = t }
     unfolding wrapOf
-    wrap-done t hs ho hn ht =
+    wrap-done t h ht =
         let k = message-allowed (v .phase) (v .at) (length (m .text)) (length (m .meta)) (length out) (length g) why found ok in
         let t′ : t ≡ take tagLength s = rw (k .tag) at ht in
-        rw (← found, if-done why _ _ ok, t′, ho, hn, ← hs) refl
+        rw (← found, if-done why _ _ ok, t′, h .output, h .runs, ← h .states) refl
 
-    pub unwrap-done : (let r : Ride = message i f true (v .state ∷ []) (v .at) m in
-        (s ∷ [] ≡ r .states) → (o ≡ r .output ++ drop (length (m .text)) out) → (n ≡ length (r .blocks)) → sameBytes (take tagLength s) g ≡ true
-        → unwrapOf K i f x m g out ≡ record { answer = answer done (length (m .text)) n; session = K .riding s tagLength; out = o; tag = g })
+    pub unwrap-done : Rode (message i f true (v .state ∷ []) (v .at) m) (length (m .text)) out s o n → sameBytes (take tagLength s) g ≡ true
+        → unwrapOf K i f x m g out ≡ record { answer = answer done (length (m .text)) n; session = K .riding s tagLength; out = o; tag = g }
     unfolding unwrapOf
-    unwrap-done hs ho hn ht = rw (← found, if-done why _ _ ok, ho, hn, ← hs, ht) refl
+    unwrap-done h ht = rw (← found, if-done why _ _ ok, h .output, h .runs, ← h .states, ht) refl
 
   -- a cryptogram with a wrong tag: what came out, d, is cleared
-  pub unwrap-wrong : why ≡ 0 → Sound i → (s d o : Bytes) → (let r : Ride = message i f true (v .state ∷ []) (v .at) m in
-      (s ∷ [] ≡ r .states) → (d ≡ r .output ++ drop (length (m .text)) out) → sameBytes (take tagLength s) g ≡ false → o ≡ replicate (length (m .text)) 0 ++ drop (length (m .text)) d
-      → unwrapOf K i f x m g out ≡ record { answer = answer tag-differs 0 0; session = K .failed; out = o; tag = g })
+  pub unwrap-wrong : why ≡ 0 → Sound i → (s d o : Bytes) (n : ℕ) → Rode (message i f true (v .state ∷ []) (v .at) m) (length (m .text)) out s d n
+      → sameBytes (take tagLength s) g ≡ false → o ≡ replicate (length (m .text)) 0 ++ drop (length (m .text)) d
+      → unwrapOf K i f x m g out ≡ record { answer = answer tag-differs 0 0; session = K .failed; out = o; tag = g }
   unfolding unwrapOf
-  unwrap-wrong ok sound s d o hs hd ht ho =
+  unwrap-wrong ok sound s d o n h ht ho =
       let k = message-allowed (v .phase) (v .at) (length (m .text)) (length (m .meta)) (length out) (length g) why found ok in
       let l = message-output i f sound true (v .state ∷ []) (v .at) (live-fits i sound (v .phase) (v .at) (k .session)) m in
-      let e : drop (length (m .text)) d ≡ drop (length (m .text)) out = ap (drop (length (m .text))) hd ∙ drop-at (message i f true (v .state ∷ []) (v .at) m .output) (drop (length (m .text)) out) (length (m .text)) l in
-      rw (← found, if-done why _ _ ok, ho, e, ← hs, ht) refl
+      let e : drop (length (m .text)) d ≡ drop (length (m .text)) out = ap (drop (length (m .text))) (h .output) ∙ drop-at (message i f true (v .state ∷ []) (v .at) m .output) (drop (length (m .text)) out) (length (m .text)) l in
+      rw (← found, if-done why _ _ ok, ho, e, ← h .states, ht) refl
 
 -- ---- a start
 module _ {R : Type 0} (K : Records R) (i : Instance) (f : Bytes → Bytes) (key nonce : Bytes) (forgets : Bool) (choice : StartTag) (g : Bytes) (why : ℕ)

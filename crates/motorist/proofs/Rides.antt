@@ -1,13 +1,13 @@
 -- The laws of rides: their blocks are as many as their rounds, their output is as long as their text, and the states after are those that the blocks lead to.
 use Prim.Native.Nat.{ℕ, suc, _+_, _-_, _≤_, _<_}
-use mathlib.Core.Path.{_≡_, refl, ap, _∙_}
+use mathlib.Core.Path.{_≡_, refl, ap, _∙_, subst}
 use mathlib.Core.Bool.{Bool, true, false}
 use mathlib.Core.List.{List, [], _∷_, _++_}
 use native.Mathlib.Omega.{arith}
 use lib.ListN.{length, drop, length-append, length-take, length-drop}
 use Rattle.motorist.specs.Instance.{Instance, Sound, textRate}
 use Rattle.motorist.specs.Piston.{Bytes}
-use Rattle.motorist.specs.Engine.{States, Blocks, Round, textLeft, textAfter, metaAfter, goesOn, injectStart, textFit, metaFit, deal, round, plan, Ride, crypt, fill, absorbs, run, ride, group}
+use Rattle.motorist.specs.Engine.{States, Blocks, Round, textLeft, textAfter, metaAfter, goesOn, injectStart, textFit, metaFit, deal, round, plan, Ride, crypt, fill, absorbs, run, ride, group, Rode}
 use Rattle.motorist.specs.Motorist.{Start, Message, knots, ends, chains, fresh, knot, start, message}
 use Rattle.motorist.proofs.Xors.{length-xors}
 use Rattle.motorist.proofs.Plans.{Planned, last, more, planned, round-left, text-after-length}
@@ -86,3 +86,7 @@ module _ (i : Instance) (f : Bytes → Bytes) where
         go : (k : Bool) → length (knot i f k (group i f decrypt ss at (g .text) (g .meta)) (ends i true) .output) ≡ length (g .text)
         go true = group-output (g .text) (g .meta) _ _
         go false = group-output (g .text) (g .meta) _ _
+
+-- what code shows of a ride it shows of any that is equal
+pub rode-as : {r q : Ride} {t n : ℕ} {d s o : Bytes} → r ≡ q → Rode r t d s o n → Rode q t d s o n
+rode-as {r} {q} {t} {n} {d} {s} {o} e h = subst (λ (x : Ride). Rode x t d s o n) e h

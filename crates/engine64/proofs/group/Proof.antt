@@ -75,7 +75,7 @@ returns : tie.Need-returns Inv-loop μ-loop
 returns c =
     let z = c .before .loop .inv .done (c .loop-test .left) in
     let p = c .before .before .before .before .before .before .pre .1 in
-    (z .states, (z .output, (z .count, omega (arith, z .few, p .0, p .1))))
+    (record { states = z .states; output = z .output; runs = z .count }, omega (arith, z .few, p .0, p .1))
 
 pub group-spec : {M : Type 1} → statement M
 group-spec =

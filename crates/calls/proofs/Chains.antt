@@ -53,7 +53,7 @@ module _ {R : Type 0} (K : Records R) (i : Instance) (f : Bytes → Bytes) where
   start-next a e = ap (λ (o : Outcome R). o .session) (start-leaves K i f a .done e)
 
 -- ---- the sessions of a chain are the definition's
-module _ (b w k : ℕ) (ok : Sound (solo b w k)) (f : Bytes → Bytes) {R : Type 0} (K : Records R) (serves : Serves K (solo b w k) f) where
+module _ {b w k : ℕ} (ok : Sound (solo b w k)) (f : Bytes → Bytes) {R : Type 0} (K : Records R) (serves : Serves K (solo b w k) f) where
   abbrev one : Instance
   one = solo b w k
 

@@ -65,7 +65,7 @@ module _ (i : Instance) (ok : Sound i) (f : Bytes → Bytes) where
       go true = (refl, refl)
       go false = (e, refl)
 
-module _ (b w k : ℕ) (ok : Sound (solo b w k)) (f : Bytes → Bytes) (long : Long f) {R : Type 0} (K : Records R) where
+module _ {b w k : ℕ} (ok : Sound (solo b w k)) (f : Bytes → Bytes) (long : Long f) {R : Type 0} (K : Records R) where
   abbrev one : Instance
   one = solo b w k
 

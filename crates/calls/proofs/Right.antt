@@ -25,14 +25,14 @@ steps-then : (i : Instance) (f : Bytes → Bytes) (ss : States) (at : ℕ) (cs :
 steps-then i f ss at [] c = rw append-nil
 steps-then i f ss at (d ∷ cs) c = rw (steps-then i f (message i f (d .decrypt) ss at (d .message) .states) tagLength cs c, behind-tag cs, append-assoc)
 
-module _ (b w k : ℕ) (ok : Sound (solo b w k)) (f : Bytes → Bytes) {R : Type 0} (K : Records R) (serves : Serves K (solo b w k) f) where
+module _ {b w k : ℕ} (ok : Sound (solo b w k)) (f : Bytes → Bytes) {R : Type 0} (K : Records R) (serves : Serves K (solo b w k) f) where
   abbrev one : Instance
   one = solo b w k
 
   right-at : (a : Opening) (front : List Call) (c : Call) (back : List Call) → Unrefused K one f a (front ++ (c ∷ back)) → RightAt K one f a front c
   right-at a front c back h =
       let x : R = endOf K one f (begins K one f a) front in
-      let s = stands b w k ok f K serves a front (record { start = h .start; calls = done-front K one f (begins K one f a) front (c ∷ back) (h .calls) }) in
+      let s = stands ok f K serves a front (record { start = h .start; calls = done-front K one f (begins K one f a) front (c ∷ back) (h .calls) }) in
       let d : callOf K one f x c .answer .number ≡ done = done-back K one f (begins K one f a) front (c ∷ back) (h .calls) .0 in
       record {
         definition = steps-then one f (start one f (startIn a) .states) (taken (asked (a .choice))) front c;

@@ -34,7 +34,7 @@ module _ {R : Type 0} (K : Records R) (i : Instance) (f : Bytes → Bytes) where
       ap₂ (λ (m n : ℕ). m + n) (ap (λ (o : Outcome R). o .answer .runs) (start-leaves K i f a .done (h .start))) (calls-runs (begins K i f a) cs (h .calls))
       ∙ sym (length-append (start i f (startIn a) .blocks) (ridden K i f (begins K i f a) cs))
 
-module _ (b w k : ℕ) (ok : Sound (solo b w k)) (f : Bytes → Bytes) {R : Type 0} (K : Records R) (serves : Serves K (solo b w k) f) where
+module _ {b w k : ℕ} (ok : Sound (solo b w k)) (f : Bytes → Bytes) {R : Type 0} (K : Records R) (serves : Serves K (solo b w k) f) where
   abbrev one : Instance
   one = solo b w k
 
@@ -44,7 +44,7 @@ module _ (b w k : ℕ) (ok : Sound (solo b w k)) (f : Bytes → Bytes) {R : Type
   calls-told x [] h = (refl, refl)
   calls-told x (c ∷ cs) h =
       let ih = calls-told (callOf K one f x c .session) cs (h .1) in
-      let z = call-steps b w k ok f K serves x c (map stepOf cs) (h .0) in (
+      let z = call-steps ok f K serves x c (map stepOf cs) (h .0) in (
         ap (λ (l : List Blocks). rideOf one f (K .shows x) c .blocks ++ l) (ih .0 ∙ ap (λ (s : Steps). s .blocks) z),
         ap₂ (λ (o : Bytes) (l : List Message). plaintextOf (stepOf c) o ∷ l) (put-out K one f ok x c (h .0)) (ih .1 ∙ ap (λ (s : Steps). s .messages) z),
       )
@@ -53,7 +53,7 @@ module _ (b w k : ℕ) (ok : Sound (solo b w k)) (f : Bytes → Bytes) {R : Type
       → (ridden K one f (begins K one f a) cs ≡ defined one f a cs .blocks) × (said K one f (begins K one f a) cs ≡ defined one f a cs .messages)
   chain-told a cs h =
       let y = calls-told (begins K one f a) cs (h .calls) in
-      let z = start-steps b w k ok f K serves a cs (h .start) in
+      let z = start-steps ok f K serves a cs (h .start) in
       (y .0 ∙ ap (λ (s : Steps). s .blocks) z, y .1 ∙ ap (λ (s : Steps). s .messages) z)
 
   -- the blocks of a chain are those of the session of its messages
@@ -67,7 +67,7 @@ module _ (b w k : ℕ) (ok : Sound (solo b w k)) (f : Bytes → Bytes) {R : Type
   -- ---- the state is what the permutation makes of the list
   fed-state : (a : Opening) (cs : List Call) → Unrefused K one f a cs → K .shows (endOf K one f (begins K one f a) cs) .state ∷ [] ≡ run one f (fresh one) (fed K one f a cs)
   fed-state a cs h =
-      stands b w k ok f K serves a cs h .states
+      stands ok f K serves a cs h .states
       ∙ session-steps one ok f (startIn a) (map stepOf cs) .1
       ∙ ap (λ (l : List Blocks). run one f (fresh one) l) (ap (sessionBlocks one f (startIn a)) (sym (chain-told a cs h .1)) ∙ sym (fed-session a cs h))
 

@@ -33,10 +33,10 @@ pub lake-total : Total records lake lakeF
 lake-total = total records lake lakeF lake-serves
 
 pub lake-right : Right records lake lakeF
-lake-right = right 1600 64 256 lake-sound lakeF records lake-serves
+lake-right = right lake-sound lakeF records lake-serves
 
 pub lake-partner : Partner records lake lakeF
-lake-partner = partner 1600 64 256 lake-sound lakeF lake-long records
+lake-partner = partner lake-sound lakeF lake-long records
 
 pub lake-story : Story records lake lakeF
-lake-story = story 1600 64 256 lake-sound lakeF records lake-serves
+lake-story = story lake-sound lakeF records lake-serves

@@ -33,10 +33,10 @@ pub river-total : Total records river riverF
 river-total = total records river riverF river-serves
 
 pub river-right : Right records river riverF
-river-right = right 800 32 256 river-sound riverF records river-serves
+river-right = right river-sound riverF records river-serves
 
 pub river-partner : Partner records river riverF
-river-partner = partner 800 32 256 river-sound riverF river-long records
+river-partner = partner river-sound riverF river-long records
 
 pub river-story : Story records river riverF
-river-story = story 800 32 256 river-sound riverF records river-serves
+river-story = story river-sound riverF records river-serves

@@ -4,7 +4,7 @@ ghost use mathlib.Core.Path.{_≡_};
 ghost use mathlib.Core.List.{[], _∷_};
 ghost use Prim.Native.Nat.{_+_, _%_, _≤_, _<_};
 ghost use lib.ListN.{length, take, drop};
-ghost use Rattle.keccak.specs.State.{bytes};
+ghost use Rattle.lanes32.specs.State.{stateOf};
 ghost use Rattle.motorist.specs.Instance.{river, textRate, fullRate, packLength, chainLength};
 ghost use Rattle.motorist.specs.Piston.{block, absorb};
 ghost use Rattle.motorist.specs.Engine.{Rode, group};
@@ -34,7 +34,7 @@ fn group(
 ) -> Ran
     requires { ⌜ (RatesOf river rates) × (at < textRate river) × (at % 4 ≡ 0) × (length (now text) ≤ length (now out)) ⌝ }
     requires { ⌜ (length (now text) ≤ 65535) × (length (now meta) ≤ 65535) ⌝ }
-    ensures { λ r. ⌜ Rode (group river riverF decrypt (bytes 4 lanes ∷ []) at (now (text .entry)) (now (meta .entry)) (eom ∷ [])) (length (now (text .entry))) (now (out .entry)) (bytes 4 (r .lanes)) (now (out .exit)) (r .runs) ⌝ }
+    ensures { λ r. ⌜ Rode (group river riverF decrypt (stateOf lanes ∷ []) at (now (text .entry)) (now (meta .entry)) (eom ∷ [])) (length (now (text .entry))) (now (out .entry)) (stateOf (r .lanes)) (now (out .exit)) (r .runs) ⌝ }
     ensures { λ r. ⌜ r .runs ≤ 131071 ⌝ }
 {
     let mut state = lanes;
@@ -65,7 +65,7 @@ fn group(
 // A knot: the chaining value goes in as metadata of one new block.
 fn knot(rates: Rates, lanes: Lanes, eom: u8) -> Lanes
     requires { ⌜ RatesOf river rates ⌝ }
-    ensures { λ r. ⌜ bytes 4 r ≡ absorb riverF (bytes 4 lanes) (block river 0 [] 0 (take (chainLength river) (bytes 4 lanes)) eom) ⌝ }
+    ensures { λ r. ⌜ stateOf r ≡ absorb riverF (stateOf lanes) (block river 0 [] 0 (take (chainLength river) (stateOf lanes)) eom) ⌝ }
 {
     let mut value = [0u8; 32];
     lanes32::squeeze(lanes, &mut value);
@@ -85,7 +85,7 @@ pub fn message(
 ) -> Ran
     requires { ⌜ (RatesOf river rates) × (at < textRate river) × (at % 4 ≡ 0) × (length (now text) ≤ length (now out)) ⌝ }
     requires { ⌜ (length (now text) ≤ 65535) × (length (now meta) ≤ 65535) ⌝ }
-    ensures { λ r. ⌜ Rode (message river riverF decrypt (bytes 4 lanes ∷ []) at (record { text = now (text .entry); meta = now (meta .entry); forgets = forget })) (length (now (text .entry))) (now (out .entry)) (bytes 4 (r .lanes)) (now (out .exit)) (r .runs) ⌝ }
+    ensures { λ r. ⌜ Rode (message river riverF decrypt (stateOf lanes ∷ []) at (record { text = now (text .entry); meta = now (meta .entry); forgets = forget })) (length (now (text .entry))) (now (out .entry)) (stateOf (r .lanes)) (now (out .exit)) (r .runs) ⌝ }
 {
     let eom = plan::eom_tag(rates);
     if forget {
@@ -113,7 +113,7 @@ fn open_in(
 ) -> Lanes
     requires { ⌜ (RatesOf river rates) × (length (now key) ≤ 32) × (length (now nonce) ≤ 1024) ⌝ }
     requires { ⌜ (length (now part) ≤ fullRate river) × (done + length (now part) ≤ length (opening (packLength river) (now key) (now nonce))) ⌝ }
-    ensures { λ r. ⌜ bytes 4 r ≡ absorb riverF (bytes 4 lanes) (block river 0 [] 0 (take (length (now (part .entry))) (drop done (opening (packLength river) (now (key .entry)) (now (nonce .entry))))) eom) ⌝ }
+    ensures { λ r. ⌜ stateOf r ≡ absorb riverF (stateOf lanes) (block river 0 [] 0 (take (length (now (part .entry))) (drop done (opening (packLength river) (now (key .entry)) (now (nonce .entry))))) eom) ⌝ }
 {
     plan::opening_part(rates.pack.0, key, nonce, done, part);
     piston32::inject(rates, lanes, part, eom)
@@ -131,7 +131,7 @@ fn open_block(
 ) -> Lanes
     requires { ⌜ (RatesOf river rates) × (length (now key) ≤ 32) × (length (now nonce) ≤ 1024) ⌝ }
     requires { ⌜ (n ≤ fullRate river) × (done + n ≤ length (opening (packLength river) (now key) (now nonce))) ⌝ }
-    ensures { λ r. ⌜ bytes 4 r ≡ absorb riverF (bytes 4 lanes) (block river 0 [] 0 (take n (drop done (opening (packLength river) (now (key .entry)) (now (nonce .entry))))) eom) ⌝ }
+    ensures { λ r. ⌜ stateOf r ≡ absorb riverF (stateOf lanes) (block river 0 [] 0 (take n (drop done (opening (packLength river) (now (key .entry)) (now (nonce .entry))))) eom) ⌝ }
 {
     let mut buffer = [0u8; 100];
     open_in(rates, lanes, key, nonce, done, &mut buffer[..n], eom)
@@ -140,7 +140,7 @@ fn open_block(
 // The blocks of a start, without its knot: key pack, nonce, number and index of the Piston, a block's worth at a time.
 fn open_group(rates: Rates, key: &[u8], nonce: &[u8], eom: u8) -> Ran
     requires { ⌜ (RatesOf river rates) × (length (now key) ≤ 32) × (length (now nonce) ≤ 1024) ⌝ }
-    ensures { λ r. ⌜ bytes 4 (r .lanes) ∷ [] ≡ opened river riverF (now (key .entry)) (now (nonce .entry)) eom .states ⌝ }
+    ensures { λ r. ⌜ stateOf (r .lanes) ∷ [] ≡ opened river riverF (now (key .entry)) (now (nonce .entry)) eom .states ⌝ }
     ensures { λ r. ⌜ (r .runs ≡ length (opened river riverF (now (key .entry)) (now (nonce .entry)) eom .blocks)) × (r .runs ≤ 2000) ⌝ }
 {
     let full = rates.full.0;
@@ -164,7 +164,7 @@ fn open_group(rates: Rates, key: &[u8], nonce: &[u8], eom: u8) -> Ran
 // A whole start.
 pub fn start(rates: Rates, key: &[u8], nonce: &[u8], forget: bool, tagged: bool) -> Ran
     requires { ⌜ (RatesOf river rates) × (length (now key) ≤ 32) × (length (now nonce) ≤ 1024) ⌝ }
-    ensures { λ r. ⌜ bytes 4 (r .lanes) ∷ [] ≡ start river riverF (record { key = now (key .entry); nonce = now (nonce .entry); tagged = tagged; forgets = forget }) .states ⌝ }
+    ensures { λ r. ⌜ stateOf (r .lanes) ∷ [] ≡ start river riverF (record { key = now (key .entry); nonce = now (nonce .entry); tagged = tagged; forgets = forget }) .states ⌝ }
     ensures { λ r. ⌜ r .runs ≡ length (start river riverF (record { key = now (key .entry); nonce = now (nonce .entry); tagged = tagged; forgets = forget }) .blocks) ⌝ }
 {
     let eom = plan::eom_of(rates, tagged);

@@ -3,7 +3,7 @@ use mathlib.Core.Bool.{Bool}
 use Prim.Native.Nat.{ℕ}
 use Rattle.table.specs.declared.Phase.the-variants.{Unstarted, Failed}
 use Rattle.table.specs.declared.StartTag.{StartTag}
-use Rattle.keccak.specs.State.{bytes, lanesFrom}
+use Rattle.lanes64.specs.State.{stateOf, lanesOf}
 use Rattle.motorist.specs.Instance.{lake}
 use Rattle.motorist.specs.Piston.{Bytes}
 use Rattle.motorist.specs.Motorist.{Message}
@@ -16,11 +16,11 @@ use Rattle.lake.specs.declared.Turn.{Turn}
 
 -- ---- the record: its bytes are those of its lanes
 abbrev pub viewOf : Session → View
-viewOf x = record { phase = x .phase; state = bytes 8 (x .lanes); at = x .at }
+viewOf x = record { phase = x .phase; state = stateOf (x .lanes); at = x .at }
 
 -- the record that is to show v: for the three constructors alone
 abbrev pub recordOf : View → Session
-recordOf v = record { lanes = lanesFrom 8 25 (v .state); phase = v .phase; at = v .at }
+recordOf v = record { lanes = lanesOf (v .state); phase = v .phase; at = v .at }
 
 abbrev pub unstarted : Session
 unstarted = recordOf (zeroed lake Unstarted)

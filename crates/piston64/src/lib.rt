@@ -4,7 +4,7 @@ ghost use mathlib.Core.Path.{_≡_};
 ghost use mathlib.Core.List.{[], _++_};
 ghost use Prim.Native.Nat.{_+_, _-_, _%_, _≤_};
 ghost use lib.ListN.{length, take, drop};
-ghost use Rattle.keccak.specs.State.{bytes};
+ghost use Rattle.lanes64.specs.State.{stateOf};
 ghost use Rattle.motorist.specs.Instance.{lake, fullRate};
 ghost use Rattle.motorist.specs.Piston.{xors, mask, plain, block, absorb};
 ghost use Rattle.piston.specs.Placed.{placed};
@@ -18,8 +18,8 @@ use rates::Rates;
 // A block's text: what is under the key stream goes to out, and the plaintext into the state.
 fn crypt(lanes: Lanes, at: usize, text: &[u8], out: &mut [u8], decrypt: bool) -> Lanes
     requires { ⌜ (at % 8 ≡ 0) × (at + length (now text) ≤ 200) × (length (now out) ≡ length (now text)) ⌝ }
-    ensures { λ r. ⌜ bytes 8 r ≡ xors (bytes 8 lanes) (placed at (plain decrypt (bytes 8 lanes) at (now (text .entry)))) ⌝ }
-    ensures { λ r. ⌜ now (out .exit) ≡ mask (bytes 8 lanes) at (now (text .entry)) ⌝ }
+    ensures { λ r. ⌜ stateOf r ≡ xors (stateOf lanes) (placed at (plain decrypt (stateOf lanes) at (now (text .entry)))) ⌝ }
+    ensures { λ r. ⌜ now (out .exit) ≡ mask (stateOf lanes) at (now (text .entry)) ⌝ }
 {
     lanes64::stream(lanes, at, text, out);
     let mut state = lanes;
@@ -34,7 +34,7 @@ fn crypt(lanes: Lanes, at: usize, text: &[u8], out: &mut [u8], decrypt: bool) ->
 // What ends every block: metadata, the four offset bytes at the full rate, and the permutation.
 fn finish(full: usize, lanes: Lanes, from: usize, meta: &[u8], offsets: [u8; 4]) -> Lanes
     requires { ⌜ (full ≡ fullRate lake) × (from % 8 ≡ 0) × (from + length (now meta) ≤ 200) ⌝ }
-    ensures { λ r. ⌜ bytes 8 r ≡ lakeF (xors (xors (bytes 8 lanes) (placed from (now (meta .entry)))) (placed (fullRate lake) offsets)) ⌝ }
+    ensures { λ r. ⌜ stateOf r ≡ lakeF (xors (xors (stateOf lanes) (placed from (now (meta .entry)))) (placed (fullRate lake) offsets)) ⌝ }
 {
     let mut state = lanes;
     lanes64::absorb(&mut state, from, meta);
@@ -54,8 +54,8 @@ pub fn block(
     decrypt: bool,
 ) -> Lanes
     requires { ⌜ (RatesOf lake rates) × (Fits lake 8 (length (now text)) (length (now meta)) (length (now out)) cut) ⌝ }
-    ensures { λ r. ⌜ bytes 8 r ≡ stepped lake lakeF decrypt (bytes 8 lanes) (cut .at) (take (cut .textend - cut .text) (drop (cut .text) (now (text .entry)))) (cut .from) (take (cut .metaend - cut .meta) (drop (cut .meta) (now (meta .entry)))) eom ⌝ }
-    ensures { λ r. ⌜ now (out .exit) ≡ take (cut .text) (now (out .entry)) ++ (mask (bytes 8 lanes) (cut .at) (take (cut .textend - cut .text) (drop (cut .text) (now (text .entry)))) ++ drop (cut .textend - cut .text) (drop (cut .text) (now (out .entry)))) ⌝ }
+    ensures { λ r. ⌜ stateOf r ≡ stepped lake lakeF decrypt (stateOf lanes) (cut .at) (take (cut .textend - cut .text) (drop (cut .text) (now (text .entry)))) (cut .from) (take (cut .metaend - cut .meta) (drop (cut .meta) (now (meta .entry)))) eom ⌝ }
+    ensures { λ r. ⌜ now (out .exit) ≡ take (cut .text) (now (out .entry)) ++ (mask (stateOf lanes) (cut .at) (take (cut .textend - cut .text) (drop (cut .text) (now (text .entry)))) ++ drop (cut .textend - cut .text) (drop (cut .text) (now (out .entry)))) ⌝ }
 {
     let at = cut.at;
     let a = cut.text;
@@ -72,7 +72,7 @@ pub fn block(
 // One block of metadata alone.
 pub fn inject(rates: Rates, lanes: Lanes, meta: &[u8], eom: u8) -> Lanes
     requires { ⌜ (RatesOf lake rates) × (length (now meta) ≤ fullRate lake) ⌝ }
-    ensures { λ r. ⌜ bytes 8 r ≡ absorb lakeF (bytes 8 lanes) (block lake 0 [] 0 (now (meta .entry)) eom) ⌝ }
+    ensures { λ r. ⌜ stateOf r ≡ absorb lakeF (stateOf lanes) (block lake 0 [] 0 (now (meta .entry)) eom) ⌝ }
 {
     let full = rates.full.0;
     let offsets = [eom, 0, 0, meta.len() as u8];

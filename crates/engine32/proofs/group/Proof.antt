@@ -2,7 +2,7 @@
 use mathlib.Core.Path.{refl}
 use native.Mathlib.Omega.{arith}
 use lib.ListN.{length}
-use Rattle.keccak.specs.State.{bytes}
+use Rattle.lanes32.specs.State.{stateOf}
 use Rattle.motorist.specs.Keyak.{riverF}
 use Rattle.motorist.proofs.Instances.{river-sound}
 use Rattle.plan.proofs.Walk.{Stage, ahead, stage-none, stage-next, fewer-ahead}
@@ -13,7 +13,7 @@ use Rattle.engine32.proofs.group.Tie as tie
 
 abbrev Inv-loop : tie.InvT-loop
 Inv-loop rates at text meta eom out₀ decrypt state₀ runs₀ cut₀ going₀ out state runs cut going =
-    Stage 800 256 32 river-sound 4 riverF decrypt (bytes 4 state₀) at text meta eom out₀ going (bytes 4 state) out runs cut
+    Stage 800 256 32 river-sound 4 riverF decrypt (stateOf state₀) at text meta eom out₀ going (stateOf state) out runs cut
 
 abbrev μ-loop : tie.MeasureT-loop
 μ-loop rates at text meta eom out₀ decrypt state₀ runs₀ cut₀ going₀ out state runs cut going = ahead (length text) (length meta) going cut
@@ -26,7 +26,7 @@ loop-holds c =
     let a = c .before .before .before .before .args in
     let q = c .before .before .before .before .pre .0 in
     rw (c .cut-at .ensures, q .0 .text, q .0 .full)
-    (stage-none 800 256 32 river-sound 4 riverF (a .decrypt) (bytes 4 (a .lanes)) (a .at) (a .text .now) (a .meta .now) (a .eom) (a .out .now) refl text-lane (q .3) (q .1) (q .2))
+    (stage-none 800 256 32 river-sound 4 riverF (a .decrypt) (stateOf (a .lanes)) (a .at) (a .text .now) (a .meta .now) (a .eom) (a .out .now) refl text-lane (q .3) (q .1) (q .2))
 
 more-requires : tie.Need-more-requires Inv-loop μ-loop
 more-requires c κs = search needs
@@ -66,7 +66,7 @@ loop-again c =
     let m = c .before .before .before .before .before .before .more in
     let b = c .before .before .before .block in
     rw (c .cut-at2 .ensures, q .0 .text, q .0 .full, b .ensures .1)
-    (stage-next w _ refl refl text-lane (q .3) (bytes 4 (b .result)) (m .result) (m .ensures) (rw (c .before .before .before .before .before .eom-at .ensures) at (b .ensures .0)))
+    (stage-next w _ refl refl text-lane (q .3) (stateOf (b .result)) (m .result) (m .ensures) (rw (c .before .before .before .before .before .eom-at .ensures) at (b .ensures .0)))
 
 same-length : tie.Need-same-length Inv-loop μ-loop
 same-length c = c .before .loop .inv .done (c .loop-test .left) .long

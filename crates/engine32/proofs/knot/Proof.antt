@@ -2,7 +2,7 @@
 use mathlib.Core.Path.{ap}
 use native.Mathlib.Omega.{arith}
 use lib.ListN.{length, length-take}
-use Rattle.keccak.specs.State.{bytes}
+use Rattle.lanes32.specs.State.{stateOf}
 use Rattle.motorist.proofs.Instances.{river-sound}
 use Rattle.piston32.proofs.Numbers.{chain-32}
 use borrow.Author.Needs.{needs}
@@ -21,7 +21,7 @@ slice-aggregate-inject c = search needs
 inject-requires : tie.Need-inject-requires
 inject-requires c κs =
     let e = c .before .before .squeeze .ensures in
-    (c .before .before .before .before .pre, omega (arith, ap length e, length-take 32 (bytes 4 (c .before .before .before .before .args .lanes)), chain-32, river-sound .chainFits, river-sound .textFits))
+    (c .before .before .before .before .pre, omega (arith, ap length e, length-take 32 (stateOf (c .before .before .before .before .args .lanes)), chain-32, river-sound .chainFits, river-sound .textFits))
 
 returns : tie.Need-returns
 returns c = rw (chain-32, ← c .before .before .before .squeeze .ensures) (c .inject .ensures)

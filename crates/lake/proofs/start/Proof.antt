@@ -2,7 +2,7 @@
 use mathlib.Core.Path.{_≡_, refl, sym, _∙_}
 use native.Mathlib.Omega.{arith}
 use lib.ListN.{length}
-use Rattle.keccak.specs.State.{bytes}
+use Rattle.lanes64.specs.State.{stateOf}
 use Rattle.motorist.specs.Instance.{lake}
 use Rattle.motorist.specs.Keyak.{lakeF}
 use borrow.Author.Needs.{needs}
@@ -75,7 +75,7 @@ returns-2 c =
     let r = c .before .before .before .before .before .before .before .start in
     let v : a .choice ≡ Checked = search needs in
     let q = c .before .before .before .before .before .before .before .before .before .is-asked .ensures in
-    let e = start-right records lake lakeF (a .key .now) (a .nonce .now) (a .forget) (a .choice) (a .tag .now) (c .before .before .before .before .before .before .before .before .before .before .before .start-refusal .result) (c .before .before .before .before .before .before .before .before .before .before .before .start-refusal .ensures) (c .before .before .before .before .before .before .before .before .before .before .if1 .left) (bytes 8 (r .result .lanes)) (r .result .runs) v (rw q at (r .ensures .0)) (rw q at (r .ensures .1)) (sym (c .before .before .tag-is .ensures) ∙ c .before .if2 .taken) in
+    let e = start-right records lake lakeF (a .key .now) (a .nonce .now) (a .forget) (a .choice) (a .tag .now) (c .before .before .before .before .before .before .before .before .before .before .before .start-refusal .result) (c .before .before .before .before .before .before .before .before .before .before .before .start-refusal .ensures) (c .before .before .before .before .before .before .before .before .before .before .if1 .left) (stateOf (r .result .lanes)) (r .result .runs) v (rw q at (r .ensures .0)) (rw q at (r .ensures .1)) (sym (c .before .before .tag-is .ensures) ∙ c .before .if2 .taken) in
     rw (c .done3 .ensures) (sym e)
 
 failed-requires : tie.Need-failed-requires
@@ -90,7 +90,7 @@ returns-3 c =
     let r = c .before .before .before .before .start in
     let v : a .choice ≡ None = search needs in
     let q = c .before .before .before .before .before .before .is-asked .ensures in
-    let e = start-untagged records lake lakeF (a .key .now) (a .nonce .now) (a .forget) (a .choice) (a .tag .now) (c .before .before .before .before .before .before .before .before .start-refusal .result) (c .before .before .before .before .before .before .before .before .start-refusal .ensures) (c .before .before .before .before .before .before .before .if1 .left) (bytes 8 (r .result .lanes)) (r .result .runs) v (rw q at (r .ensures .0)) (rw q at (r .ensures .1)) in
+    let e = start-untagged records lake lakeF (a .key .now) (a .nonce .now) (a .forget) (a .choice) (a .tag .now) (c .before .before .before .before .before .before .before .before .start-refusal .result) (c .before .before .before .before .before .before .before .before .start-refusal .ensures) (c .before .before .before .before .before .before .before .if1 .left) (stateOf (r .result .lanes)) (r .result .runs) v (rw q at (r .ensures .0)) (rw q at (r .ensures .1)) in
     rw (c .done .ensures) (sym e)
 
 same-length-2 : tie.Need-same-length-2
@@ -102,7 +102,7 @@ returns-4 c =
     let r = c .before .before .before .before .before .before .before .before .start in
     let v : a .choice ≡ Produced = search needs in
     let q = c .before .before .before .before .before .before .before .before .before .before .is-asked .ensures in
-    let e = start-produced records lake lakeF (a .key .now) (a .nonce .now) (a .forget) (a .choice) (a .tag .now) (c .before .before .before .before .before .before .before .before .before .before .before .before .start-refusal .result) (c .before .before .before .before .before .before .before .before .before .before .before .before .start-refusal .ensures) (c .before .before .before .before .before .before .before .before .before .before .before .if1 .left) (bytes 8 (r .result .lanes)) (r .result .runs) _ v (rw q at (r .ensures .0)) (rw q at (r .ensures .1)) (c .before .before .before .squeeze .ensures) in
+    let e = start-produced records lake lakeF (a .key .now) (a .nonce .now) (a .forget) (a .choice) (a .tag .now) (c .before .before .before .before .before .before .before .before .before .before .before .before .start-refusal .result) (c .before .before .before .before .before .before .before .before .before .before .before .before .start-refusal .ensures) (c .before .before .before .before .before .before .before .before .before .before .before .if1 .left) (stateOf (r .result .lanes)) (r .result .runs) _ v (rw q at (r .ensures .0)) (rw q at (r .ensures .1)) (c .before .before .before .squeeze .ensures) in
     rw (c .done2 .ensures) (sym e)
 
 same-length-3 : tie.Need-same-length-3
@@ -114,7 +114,7 @@ returns-5 c =
     let r = c .before .before .before .before .before .before .before .before .start in
     let v : a .choice ≡ Checked = search needs in
     let q = c .before .before .before .before .before .before .before .before .before .before .is-asked .ensures in
-    let e = start-wrong records lake lakeF (a .key .now) (a .nonce .now) (a .forget) (a .choice) (a .tag .now) (c .before .before .before .before .before .before .before .before .before .before .before .before .start-refusal .result) (c .before .before .before .before .before .before .before .before .before .before .before .before .start-refusal .ensures) (c .before .before .before .before .before .before .before .before .before .before .before .if1 .left) (bytes 8 (r .result .lanes)) (r .result .runs) v (rw q at (r .ensures .0)) (sym (c .before .before .before .tag-is .ensures) ∙ c .before .before .if2 .left) in
+    let e = start-wrong records lake lakeF (a .key .now) (a .nonce .now) (a .forget) (a .choice) (a .tag .now) (c .before .before .before .before .before .before .before .before .before .before .before .before .start-refusal .result) (c .before .before .before .before .before .before .before .before .before .before .before .before .start-refusal .ensures) (c .before .before .before .before .before .before .before .before .before .before .before .if1 .left) (stateOf (r .result .lanes)) (r .result .runs) v (rw q at (r .ensures .0)) (sym (c .before .before .before .tag-is .ensures) ∙ c .before .before .if2 .left) in
     rw (c .refused2 .ensures, c .before .failed .ensures) (sym e)
 
 pub start-spec : {M : Type 1} → statement M

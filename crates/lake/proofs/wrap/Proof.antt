@@ -2,7 +2,7 @@
 use mathlib.Core.Path.{refl, sym}
 use native.Mathlib.Omega.{arith}
 use lib.ListN.{length}
-use Rattle.keccak.specs.State.{bytes}
+use Rattle.lanes64.specs.State.{stateOf}
 use Rattle.motorist.specs.Instance.{lake}
 use Rattle.motorist.specs.Keyak.{lakeF}
 use Rattle.motorist.proofs.Instances.{lake-sound}
@@ -52,7 +52,7 @@ returns-2 : tie.Need-returns-2
 returns-2 c =
     let a = c .before .before .before .before .before .before .before .before .before .before .before .before .before .before .before .before .before .before .args in
     let r = c .before .before .before .before .before .before .before .before .message in
-    let e = wrap-done records lake lakeF (a .session) (message (a .text .now) (a .meta .now) (a .forget)) (a .out .now) (a .tag .now) (c .before .before .before .before .before .before .before .before .before .before .before .before .before .message-refusal .result) (c .before .before .before .before .before .before .before .before .before .before .before .before .before .message-refusal .ensures) (c .before .before .before .before .before .before .before .before .before .before .before .before .if1 .left) (bytes 8 (r .result .lanes)) (r .result .runs) _ _ (r .ensures) (c .before .before .before .squeeze .ensures) in
+    let e = wrap-done records lake lakeF (a .session) (message (a .text .now) (a .meta .now) (a .forget)) (a .out .now) (a .tag .now) (c .before .before .before .before .before .before .before .before .before .before .before .before .before .message-refusal .result) (c .before .before .before .before .before .before .before .before .before .before .before .before .before .message-refusal .ensures) (c .before .before .before .before .before .before .before .before .before .before .before .before .if1 .left) (stateOf (r .result .lanes)) (r .result .runs) _ _ (r .ensures) (c .before .before .before .squeeze .ensures) in
     rw (c .done .ensures) (sym e)
 
 pub wrap-spec : {M : Type 1} → statement M

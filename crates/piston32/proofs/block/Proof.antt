@@ -1,7 +1,7 @@
 -- The proof that `piston32::block` meets its contract.
 use mathlib.Core.Path.{refl}
 use lib.ListN.{length}
-use Rattle.keccak.specs.State.{bytes}
+use Rattle.lanes32.specs.State.{stateOf}
 use Rattle.motorist.specs.Keyak.{riverF}
 use Rattle.motorist.specs.Instance.{river}
 use Rattle.motorist.proofs.Instances.{river-sound}
@@ -60,8 +60,8 @@ same-length c = search needs
 returns : tie.Need-returns
 returns c =
     let a = c .before .before .before .before .before .before .before .before .before .before .before .args in (
-      step river riverF (a .decrypt) 4 (length (a .out .now)) (a .cut) (bytes 4 (a .lanes)) (a .text .now) (a .meta .now) (a .eom) (c .before .before .before .before .before .before .before .before .before .before .before .pre .1)
-          (bytes 4 (c .before .before .before .before .before .crypt .result)) (bytes 4 (c .finish .result)) (c .before .before .before .before .before .crypt .ensures .0) (rw (c .before .before .offsets .ensures) at (c .finish .ensures)),
+      step river riverF (a .decrypt) 4 (length (a .out .now)) (a .cut) (stateOf (a .lanes)) (a .text .now) (a .meta .now) (a .eom) (c .before .before .before .before .before .before .before .before .before .before .before .pre .1)
+          (stateOf (c .before .before .before .before .before .crypt .result)) (stateOf (c .finish .result)) (c .before .before .before .before .before .crypt .ensures .0) (rw (c .before .before .offsets .ensures) at (c .finish .ensures)),
       rw (c .before .before .before .before .before .crypt .ensures .1) refl,
     )
 

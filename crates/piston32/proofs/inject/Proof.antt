@@ -1,7 +1,7 @@
 -- The proof that `piston32::inject` meets its contract.
 use mathlib.Core.Path.{refl}
 use native.Mathlib.Omega.{arith}
-use Rattle.keccak.specs.State.{bytes}
+use Rattle.lanes32.specs.State.{stateOf}
 use Rattle.motorist.specs.Keyak.{riverF}
 use Rattle.motorist.proofs.Instances.{river-sound}
 use Rattle.plan.proofs.Knots.{inject-step}
@@ -18,7 +18,7 @@ finish-requires c κs = (c .before .pre .0 .full, refl, omega (arith, room, c .b
 returns : tie.Need-returns
 returns c =
     let a = c .before .before .args in
-    inject-step 800 32 256 riverF river-sound (bytes 4 (a .lanes)) (a .meta .now) (a .eom) (c .before .before .pre .1) (bytes 4 (c .finish .result)) (c .finish .ensures)
+    inject-step 800 32 256 riverF river-sound (stateOf (a .lanes)) (a .meta .now) (a .eom) (c .before .before .pre .1) (stateOf (c .finish .result)) (c .finish .ensures)
 
 pub inject-spec : {M : Type 1} → statement M
 inject-spec = tie.close (tie.spec cast-t8 finish-requires returns)

@@ -1,7 +1,7 @@
 -- The proof that `piston64::block` meets its contract.
 use mathlib.Core.Path.{refl}
 use lib.ListN.{length}
-use Rattle.keccak.specs.State.{bytes}
+use Rattle.lanes64.specs.State.{stateOf}
 use Rattle.motorist.specs.Keyak.{lakeF}
 use Rattle.motorist.specs.Instance.{lake}
 use Rattle.motorist.proofs.Instances.{lake-sound}
@@ -60,8 +60,8 @@ same-length c = search needs
 returns : tie.Need-returns
 returns c =
     let a = c .before .before .before .before .before .before .before .before .before .before .before .args in (
-      step lake lakeF (a .decrypt) 8 (length (a .out .now)) (a .cut) (bytes 8 (a .lanes)) (a .text .now) (a .meta .now) (a .eom) (c .before .before .before .before .before .before .before .before .before .before .before .pre .1)
-          (bytes 8 (c .before .before .before .before .before .crypt .result)) (bytes 8 (c .finish .result)) (c .before .before .before .before .before .crypt .ensures .0) (rw (c .before .before .offsets .ensures) at (c .finish .ensures)),
+      step lake lakeF (a .decrypt) 8 (length (a .out .now)) (a .cut) (stateOf (a .lanes)) (a .text .now) (a .meta .now) (a .eom) (c .before .before .before .before .before .before .before .before .before .before .before .pre .1)
+          (stateOf (c .before .before .before .before .before .crypt .result)) (stateOf (c .finish .result)) (c .before .before .before .before .before .crypt .ensures .0) (rw (c .before .before .offsets .ensures) at (c .finish .ensures)),
       rw (c .before .before .before .before .before .crypt .ensures .1) refl,
     )
 

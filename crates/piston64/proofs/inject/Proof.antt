@@ -1,7 +1,7 @@
 -- The proof that `piston64::inject` meets its contract.
 use mathlib.Core.Path.{refl}
 use native.Mathlib.Omega.{arith}
-use Rattle.keccak.specs.State.{bytes}
+use Rattle.lanes64.specs.State.{stateOf}
 use Rattle.motorist.specs.Keyak.{lakeF}
 use Rattle.motorist.proofs.Instances.{lake-sound}
 use Rattle.plan.proofs.Knots.{inject-step}
@@ -18,7 +18,7 @@ finish-requires c κs = (c .before .pre .0 .full, refl, omega (arith, room, c .b
 returns : tie.Need-returns
 returns c =
     let a = c .before .before .args in
-    inject-step 1600 64 256 lakeF lake-sound (bytes 8 (a .lanes)) (a .meta .now) (a .eom) (c .before .before .pre .1) (bytes 8 (c .finish .result)) (c .finish .ensures)
+    inject-step 1600 64 256 lakeF lake-sound (stateOf (a .lanes)) (a .meta .now) (a .eom) (c .before .before .pre .1) (stateOf (c .finish .result)) (c .finish .ensures)
 
 pub inject-spec : {M : Type 1} → statement M
 inject-spec = tie.close (tie.spec cast-t8 finish-requires returns)

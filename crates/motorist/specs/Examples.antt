@@ -39,45 +39,46 @@ messagePlan i tagged t m forgets =
 abbrev alone : List (List Bytes) → List Bytes
 alone rs = map first rs
 
--- B1 to B13, and the key pack of the key 01 23 45 67 89 AB CD EF with l = 18
-pub plans : List (List Bytes)
-plans =
-    alone (startPlan lake (starting 150 true false))
-    ∷ alone (startPlan lake (starting 151 true false))
-    ∷ alone (startPlan lake (starting 0 false false))
-    ∷ alone (startPlan lake (starting 0 false true))
-    ∷ alone (messagePlan lake true 0 0 false)
-    ∷ alone (messagePlan lake true 152 24 false)
-    ∷ alone (messagePlan lake true 153 0 false)
-    ∷ alone (messagePlan lake true 152 25 false)
-    ∷ alone (messagePlan lake true 0 192 false)
-    ∷ alone (messagePlan lake true 200 30 true)
-    ∷ alone (messagePlan lake false 168 0 false)
-    ∷ alone (startPlan river (starting 58 true false))
-    ∷ alone (messagePlan river true 53 29 false)
-    ∷ (keyPack 18 (0x01 ∷ 0x23 ∷ 0x45 ∷ 0x67 ∷ 0x89 ∷ 0xab ∷ 0xcd ∷ 0xef ∷ []) ∷ [])
+-- blocks as 01 states them, each (crypt end, inject start, inject end, EOM)
+abbrev stated : List (ℕ × ℕ × ℕ × ℕ) → List Bytes
+stated qs = map (λ q. q .0 ∷ q .1 ∷ q .2 ∷ q .3 ∷ []) qs
+
+-- 01's plans worked by hand, each beside the blocks that 01 states, and the key pack of the key 01 23 45 67 89 AB CD EF with l = 18
+pub rows : List (List Bytes × List Bytes)
+rows =
+    -- B1: start, nonce 150, tag
+    (alone (startPlan lake (starting 150 true false)), stated ((0, 0, 192, 16) ∷ []))
+    -- B2: nonce 151, tag
+    ∷ (alone (startPlan lake (starting 151 true false)), stated ((0, 0, 192, 0) ∷ (0, 0, 1, 16) ∷ []))
+    -- B3: nonce 0, no tag
+    ∷ (alone (startPlan lake (starting 0 false false)), stated ((0, 0, 42, 255) ∷ []))
+    -- B4: B3 with forgetting
+    ∷ (alone (startPlan lake (starting 0 false true)), stated ((0, 0, 42, 32) ∷ (0, 0, 32, 255) ∷ []))
+    -- B5: text 0, metadata 0
+    ∷ (alone (messagePlan lake true 0 0 false), stated ((0, 0, 0, 16) ∷ []))
+    -- B6: 152, 24
+    ∷ (alone (messagePlan lake true 152 24 false), stated ((168, 168, 192, 16) ∷ []))
+    -- B7: 153, 0
+    ∷ (alone (messagePlan lake true 153 0 false), stated ((168, 168, 168, 0) ∷ (1, 168, 168, 16) ∷ []))
+    -- B8: 152, 25
+    ∷ (alone (messagePlan lake true 152 25 false), stated ((168, 168, 192, 0) ∷ (0, 0, 1, 16) ∷ []))
+    -- B9: 0, 192
+    ∷ (alone (messagePlan lake true 0 192 false), stated ((0, 0, 192, 16) ∷ []))
+    -- B10: 200, 30, forgetting
+    ∷ (alone (messagePlan lake true 200 30 true), stated ((168, 168, 192, 0) ∷ (48, 168, 174, 32) ∷ (0, 0, 32, 16) ∷ []))
+    -- B11: 168, 0, after a start without tag
+    ∷ (alone (messagePlan lake false 168 0 false), stated ((168, 168, 168, 16) ∷ []))
+    -- B12: River start, nonce 58, tag
+    ∷ (alone (startPlan river (starting 58 true false)), stated ((0, 0, 96, 16) ∷ []))
+    -- B13: River after a tag, 53, 29
+    ∷ (alone (messagePlan river true 53 29 false), stated ((68, 68, 96, 0) ∷ (1, 68, 69, 16) ∷ []))
+    -- the key pack
+    ∷ (keyPack 18 (0x01 ∷ 0x23 ∷ 0x45 ∷ 0x67 ∷ 0x89 ∷ 0xab ∷ 0xcd ∷ 0xef ∷ []) ∷ [], (0x12 ∷ 0x01 ∷ 0x23 ∷ 0x45 ∷ 0x67 ∷ 0x89 ∷ 0xab ∷ 0xcd ∷ 0xef ∷ 0x01 ∷ replicate 8 0) ∷ [])
     ∷ []
 
-pub stated : List (List Bytes)
-stated =
-    ((0 ∷ 0 ∷ 192 ∷ 16 ∷ []) ∷ [])
-    ∷ ((0 ∷ 0 ∷ 192 ∷ 0 ∷ []) ∷ (0 ∷ 0 ∷ 1 ∷ 16 ∷ []) ∷ [])
-    ∷ ((0 ∷ 0 ∷ 42 ∷ 255 ∷ []) ∷ [])
-    ∷ ((0 ∷ 0 ∷ 42 ∷ 32 ∷ []) ∷ (0 ∷ 0 ∷ 32 ∷ 255 ∷ []) ∷ [])
-    ∷ ((0 ∷ 0 ∷ 0 ∷ 16 ∷ []) ∷ [])
-    ∷ ((168 ∷ 168 ∷ 192 ∷ 16 ∷ []) ∷ [])
-    ∷ ((168 ∷ 168 ∷ 168 ∷ 0 ∷ []) ∷ (1 ∷ 168 ∷ 168 ∷ 16 ∷ []) ∷ [])
-    ∷ ((168 ∷ 168 ∷ 192 ∷ 0 ∷ []) ∷ (0 ∷ 0 ∷ 1 ∷ 16 ∷ []) ∷ [])
-    ∷ ((0 ∷ 0 ∷ 192 ∷ 16 ∷ []) ∷ [])
-    ∷ ((168 ∷ 168 ∷ 192 ∷ 0 ∷ []) ∷ (48 ∷ 168 ∷ 174 ∷ 32 ∷ []) ∷ (0 ∷ 0 ∷ 32 ∷ 16 ∷ []) ∷ [])
-    ∷ ((168 ∷ 168 ∷ 168 ∷ 16 ∷ []) ∷ [])
-    ∷ ((0 ∷ 0 ∷ 96 ∷ 16 ∷ []) ∷ [])
-    ∷ ((68 ∷ 68 ∷ 96 ∷ 0 ∷ []) ∷ (1 ∷ 68 ∷ 69 ∷ 16 ∷ []) ∷ [])
-    ∷ ((0x12 ∷ 0x01 ∷ 0x23 ∷ 0x45 ∷ 0x67 ∷ 0x89 ∷ 0xab ∷ 0xcd ∷ 0xef ∷ 0x01 ∷ 0 ∷ 0 ∷ 0 ∷ 0 ∷ 0 ∷ 0 ∷ 0 ∷ 0 ∷ []) ∷ [])
-    ∷ []
-
-pub as-stated : plans ≡ stated
-unfolding plans stated startPlan messagePlan
+-- the two sides of each row are equal
+pub as-stated : map (λ r. r .0) rows ≡ map (λ r. r .1) rows
+unfolding rows startPlan messagePlan
 as-stated = refl
 
 -- ---- where the four slips would show

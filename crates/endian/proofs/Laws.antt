@@ -11,6 +11,7 @@ use lib.ListN.{length, getD, set, drop, drop-of-length-le}
 use native.Mathlib.Numerals.{add-one}
 use Rattle.slices.proofs.Parts.{grow-one}
 use Rattle.endian.specs.Little.{fromBytes, toBytes}
+use Rattle.endian.proofs.Small.{Small, small-nil, small-cons}
 
 pub toBytes-length : (n x : ℕ) → length (toBytes n x) ≡ n
 unfolding toBytes
@@ -18,14 +19,13 @@ toBytes-length zero x = refl
 toBytes-length (suc n) x = ap suc (toBytes-length n (x / 2 ^ 8))
 
 -- each is a byte
-pub toBytes-small : (n x i : ℕ) → getD (toBytes n x) i 0 < 2 ^ 8
+pub toBytes-small : (n x : ℕ) → Small (toBytes n x)
 unfolding toBytes
-toBytes-small zero x i = omega arith
-toBytes-small (suc n) x zero = mod-lt x (omega arith)
-toBytes-small (suc n) x (suc i) = toBytes-small n (x / 2 ^ 8) i
+toBytes-small zero x = small-nil
+toBytes-small (suc n) x = small-cons (x % 2 ^ 8) (toBytes n (x / 2 ^ 8)) (mod-lt x (omega arith)) (toBytes-small n (x / 2 ^ 8))
 
 -- a number of n bytes is below 2 ^ (8 n)
-pub fromBytes-lt : (vs : List ℕ) → ((i : ℕ) → getD vs i 0 < 2 ^ 8) → fromBytes vs < 2 ^ (8 * length vs)
+pub fromBytes-lt : (vs : List ℕ) → Small vs → fromBytes vs < 2 ^ (8 * length vs)
 unfolding fromBytes
 fromBytes-lt [] h = omega arith
 fromBytes-lt (v ∷ vs) h =
@@ -34,7 +34,7 @@ fromBytes-lt (v ∷ vs) h =
     rw (e, p) (omega (arith, h 0, fromBytes-lt vs (λ i. h (suc i))))
 
 -- bytes to a number and back
-pub to-from : (vs : List ℕ) → ((i : ℕ) → getD vs i 0 < 2 ^ 8) → toBytes (length vs) (fromBytes vs) ≡ vs
+pub to-from : (vs : List ℕ) → Small vs → toBytes (length vs) (fromBytes vs) ≡ vs
 unfolding fromBytes toBytes
 to-from [] h = refl
 to-from (v ∷ vs) h =
@@ -115,7 +115,7 @@ to-snoc (suc n) x =
     rw (to-snoc n (x / 2 ^ 8), e, ← shr-shr x 8 (8 * n)) refl
 
 -- four bytes at most are a number of 32 bits
-pub few-lt : (vs : List ℕ) → length vs ≤ 4 → ((i : ℕ) → getD vs i 0 < 2 ^ 8) → fromBytes vs < 2 ^ 32
+pub few-lt : (vs : List ℕ) → length vs ≤ 4 → Small vs → fromBytes vs < 2 ^ 32
 few-lt vs h b = let e : 8 * length vs ≤ 32 = omega arith in lt-of-lt-of-le (fromBytes-lt vs b) (pow-mono e)
 
 -- the number of k bytes leaves room for a byte more

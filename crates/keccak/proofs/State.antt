@@ -4,11 +4,12 @@ use mathlib.Core.List.{List, [], _∷_, _++_}
 use Prim.Native.Nat.{ℕ, zero, suc, _+_, _-_, _*_, _/_, _%_, _^_, _≤_, _<_}
 use native.Mathlib.Nat.{zero-add, mod-lt, zero-div, zero-mod, div-one, mul-comm, div-add-mod', lt-of-lt-of-le}
 use native.Mathlib.Omega.{arith}
-use lib.ListN.{getD, length, take, drop, length-append, length-take, length-drop, take-append-drop, List·getD-append, List·getD-eq-default}
-use lib.Seq.{getD-append-add, getD-drop, take-at, drop-at, length-take-le}
+use lib.ListN.{getD, length, take, drop, length-append, length-take, length-drop, take-append-drop, List·getD-append}
+use lib.Seq.{getD-append-add, take-at, drop-at, length-take-le}
 use lib.Pow.{pow-add, pow-pos, pow-mono, shr-shr}
 use Rattle.endian.specs.Little.{fromBytes, toBytes}
-use Rattle.endian.proofs.Laws.{toBytes-length, fromBytes-lt, to-from, from-to}
+use Rattle.endian.proofs.Laws.{toBytes-length, toBytes-small, fromBytes-lt, to-from, from-to}
+use Rattle.endian.proofs.Small.{Small, small-nil, small-append, small-take, small-drop}
 use Rattle.keccak.specs.Keccak.{keccakP}
 use Rattle.keccak.specs.Bits.{bit}
 use Rattle.keccak.specs.Lanes.{from, bits, lanesOf, roundsL}
@@ -16,10 +17,6 @@ use Rattle.keccak.specs.State.{string, bytes, lanesFrom, keccakBytes}
 use Rattle.keccak.proofs.Bits.{bit-shr, bit-mod}
 use Rattle.keccak.proofs.Lanes.{Holds, holds-bits, from-length, getD-from, lanesOf-length}
 use Rattle.keccak.proofs.Rounds.{rounds-hold, rounds-keccak}
-
--- every byte is below 256
-abbrev pub Small : List ℕ → Type 0
-Small s = (i : ℕ) → getD s i 0 < 2 ^ 8
 
 -- ---- lengths
 pub bytes-length : (w : ℕ) (s : List ℕ) → length (bytes w s) ≡ w * length s
@@ -64,8 +61,9 @@ bytes-at w h s i =
     ap (λ (k : ℕ). getD (bytes w s) k 0) e ∙ bytes-lane w s (i / w) (i % w) (mod-lt i h)
 
 pub bytes-small : (w : ℕ) (s : List ℕ) → Small (bytes w s)
-bytes-small zero s i = rw (List·getD-eq-default (bytes 0 s) 0 {n = i} (omega (arith, bytes-length 0 s))) (omega arith)
-bytes-small (suc w) s i = rw (bytes-at (suc w) (omega arith) s i) (mod-lt _ (omega arith))
+unfolding bytes
+bytes-small w [] = small-nil
+bytes-small w (n ∷ s) = small-append (toBytes w n) (bytes w s) (toBytes-small w n) (bytes-small w s)
 
 -- ---- bits
 bit-none : (z : ℕ) → bit 0 z ≡ 0
@@ -99,23 +97,14 @@ string-byte w h s i j k =
     rw (bytes-at w h s i, e) (bit-mod _ 8 j k ∙ bit-shr _ (8 * r) j ∙ sym (string-lane (8 * w) s q (8 * r + j) (omega arith)))
 
 -- ---- bytes and lanes are one to one
-pub take-small : (w : ℕ) (s : List ℕ) → Small s → Small (take w s)
-take-small zero s h i = omega arith
-take-small (suc w) [] h i = h i
-take-small (suc w) (v ∷ s) h zero = h 0
-take-small (suc w) (v ∷ s) h (suc i) = take-small w s (λ j. h (suc j)) i
-
-pub drop-small : (w : ℕ) (s : List ℕ) → Small s → Small (drop w s)
-drop-small w s h i = rw getD-drop (h (w + i))
-
 module _ (w : ℕ) where
   pub lanesFrom-lt : (n : ℕ) (s : List ℕ) → Small s → (i : ℕ) → getD (lanesFrom w n s) i 0 < 2 ^ (8 * w)
   unfolding lanesFrom
   lanesFrom-lt zero s h i = pow-pos (8 * w)
   lanesFrom-lt (suc n) s h zero =
       let e : 8 * length (take w s) ≤ 8 * w = rw length-take (omega arith) in
-      lt-of-lt-of-le (fromBytes-lt (take w s) (take-small w s h)) (pow-mono e)
-  lanesFrom-lt (suc n) s h (suc i) = lanesFrom-lt n (drop w s) (drop-small w s h) i
+      lt-of-lt-of-le (fromBytes-lt (take w s) (small-take w s h)) (pow-mono e)
+  lanesFrom-lt (suc n) s h (suc i) = lanesFrom-lt n (drop w s) (small-drop w s h) i
 
   pub lanes-bytes : (s : List ℕ) → ((i : ℕ) → getD s i 0 < 2 ^ (8 * w)) → lanesFrom w (length s) (bytes w s) ≡ s
   unfolding lanesFrom bytes
@@ -131,8 +120,8 @@ module _ (w : ℕ) where
   bytes-lanes zero (v ∷ s) e h = absurd (omega arith)
   bytes-lanes (suc n) s e h =
       let k : length (take w s) ≡ w = length-take-le w s (omega arith) in
-      let t : toBytes w (fromBytes (take w s)) ≡ take w s = rw k at (to-from (take w s) (take-small w s h)) in
-      rw (t, bytes-lanes n (drop w s) (rw length-drop (omega arith)) (drop-small w s h)) (take-append-drop w s)
+      let t : toBytes w (fromBytes (take w s)) ≡ take w s = rw k at (to-from (take w s) (small-take w s h)) in
+      rw (t, bytes-lanes n (drop w s) (rw length-drop (omega arith)) (small-drop w s h)) (take-append-drop w s)
 
 -- ---- the permutation of bytes
 pub keccakBytes-length : (l n : ℕ) (s : List ℕ) → length (keccakBytes l n s) ≡ 2 ^ l / 8 * 25

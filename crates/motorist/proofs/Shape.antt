@@ -17,7 +17,8 @@ use Rattle.motorist.specs.Session.{Step, step, steps, sessionBlocks}
 use Rattle.motorist.proofs.Plans.{eom-chain, alone-fits, taken-fits, goes-on-length, text-after-length, meta-after-length, Fit, Behind, behind, behind-less, inject-le, deal-fits, Planned, last, more, planned, Injected, final, further, injected}
 use Rattle.motorist.proofs.Blocks.{block-length, crypt-end-back}
 use Rattle.motorist.proofs.Xors.{length-xors, length-plain}
-use Rattle.motorist.proofs.Small.{Small, Each, each-append, each-replicate, small-nil, small-cons, small-four, small-append, small-zeros, small-pad, small-laid, small-take, small-drop, small-xors, small-plain}
+use Rattle.endian.proofs.Small.{Small, small-nil, small-cons, small-append, small-zeros, small-take, small-drop}
+use Rattle.motorist.proofs.Small.{Each, each-append, each-replicate, small-four, small-pad, small-laid, small-xors, small-plain}
 
 -- ---- states, and a permutation that keeps them
 pub record State (i : Instance) (s : Bytes) : Type 0 where

@@ -4,9 +4,8 @@ use mathlib.Core.Bool.{Bool, true, false}
 use mathlib.Core.List.{List, [], _∷_, _++_}
 use native.Mathlib.Omega.{arith}
 use lib.Bits.{xor-lt}
-use lib.ListN.{length, take, drop, replicate}
-use lib.Seq.{getD-drop}
-pub use Rattle.keccak.proofs.State.{Small}
+use lib.ListN.{length, drop, replicate}
+use Rattle.endian.proofs.Small.{Small, small-nil, small-cons, small-append, small-zeros, small-drop}
 use Rattle.motorist.specs.Piston.{Bytes, pad, laid, xors, mask, plain}
 
 -- all elements of a list
@@ -22,25 +21,8 @@ pub each-replicate {ℓ} : {A : Type ℓ} (P : A → Type 0) (n : ℕ) (x : A) �
 each-replicate P zero x h = tt
 each-replicate P (suc n) x h = (h, each-replicate P n x h)
 
-pub small-nil : Small []
-small-nil k = omega arith
-
-pub small-cons : (x : ℕ) (s : Bytes) → x < 2 ^ 8 → Small s → Small (x ∷ s)
-small-cons x s hx hs zero = hx
-small-cons x s hx hs (suc k) = hs k
-
 pub small-four : (a b c d : ℕ) → a < 2 ^ 8 → b < 2 ^ 8 → c < 2 ^ 8 → d < 2 ^ 8 → Small (a ∷ b ∷ c ∷ d ∷ [])
 small-four a b c d ha hb hc hd = small-cons a (b ∷ c ∷ d ∷ []) ha (small-cons b (c ∷ d ∷ []) hb (small-cons c (d ∷ []) hc (small-cons d [] hd small-nil)))
-
-pub small-append : (s t : Bytes) → Small s → Small t → Small (s ++ t)
-small-append [] t hs ht k = ht k
-small-append (x ∷ s) t hs ht zero = hs 0
-small-append (x ∷ s) t hs ht (suc k) = small-append s t (λ j. hs (suc j)) ht k
-
-pub small-zeros : (n : ℕ) → Small (replicate n 0)
-small-zeros zero k = omega arith
-small-zeros (suc n) zero = omega arith
-small-zeros (suc n) (suc k) = small-zeros n k
 
 pub small-pad : (n : ℕ) (s : Bytes) → Small s → Small (pad n s)
 small-pad n s h = small-append s (replicate (n - length s) 0) h (small-zeros (n - length s))
@@ -48,15 +30,6 @@ small-pad n s h = small-append s (replicate (n - length s) 0) h (small-zeros (n 
 pub small-laid : (at : ℕ) (t : Bytes) → Small t → Small (laid at t)
 small-laid at [] h = h
 small-laid at (x ∷ t) h = small-append (replicate at 0) (x ∷ t) (small-zeros at) h
-
-pub small-take : (n : ℕ) (s : Bytes) → Small s → Small (take n s)
-small-take zero s h k = omega arith
-small-take (suc n) [] h k = h k
-small-take (suc n) (x ∷ s) h zero = h 0
-small-take (suc n) (x ∷ s) h (suc k) = small-take n s (λ j. h (suc j)) k
-
-pub small-drop : (n : ℕ) (s : Bytes) → Small s → Small (drop n s)
-small-drop n s h k = rw (getD-drop n s k 0) (h (n + k))
 
 pub small-xors : (s t : Bytes) → Small s → Small t → Small (xors s t)
 small-xors [] t hs ht k = omega arith

@@ -4,15 +4,14 @@ use mathlib.Core.Path.{_≡_, refl, sym, ap, _∙_}
 use mathlib.Core.List.{List, [], _∷_, _++_, append-assoc}
 use Prim.Native.Nat.{ℕ, zero, suc, _+_, _-_, _*_, _/_, _%_, _^_, _≤_, _<_}
 use native.Mathlib.Nat.{zero-add, suc-add, mul-zero, mul-suc, mul-add, zero-div, zero-mod}
-use native.Mathlib.Decide.{decLt}
 use native.Mathlib.Omega.{arith}
 use lib.Bits.{bitXor, xor-mod, xor-shr}
-use lib.ListN.{length, getD, set, take, drop, replicate, length-append, length-replicate, length-take, length-drop, List·getD-eq-default}
-use lib.Seq.{drop-drop, drop-at, take-add, length-take-le, getD-take, getD-drop}
+use lib.ListN.{length, getD, set, take, drop, replicate, length-append, length-replicate, length-drop}
+use lib.Seq.{drop-drop, drop-at, take-add, length-take-le}
 use Rattle.endian.specs.Little.{fromBytes, toBytes}
 use Rattle.endian.proofs.Laws.{toBytes-length}
 use Rattle.keccak.specs.State.{bytes}
-use Rattle.keccak.proofs.State.{Small}
+use Rattle.endian.proofs.Small.{Small, small-part}
 use Rattle.motorist.specs.Piston.{Bytes, xors, mask}
 use Rattle.piston.specs.Placed.{placed}
 use Rattle.piston.proofs.Xors.{xors-end, xors-front, xors-skip, xors-behind, mask-append}
@@ -87,15 +86,6 @@ module _ (w : ℕ) where
   lane-out l q v h k s = rw (lane-at l q h) (keyed w v (getD l q 0) (bytes w (drop (suc q) l)) k s)
 
 -- ---- the turns of the loops over the lanes that a run of bytes fills, from lane q on
-small-part : (v : Bytes) (a k : ℕ) → Small v → Small (take k (drop a v))
-small-part v a k s i = by (decLt i (length (take k (drop a v))))
-  where
-    by : Dec (i < length (take k (drop a v))) → getD (take k (drop a v)) i 0 < 2 ^ 8
-    by (yes h) =
-        let b : i < k = omega (arith, length-take k (drop a v)) in
-        rw (getD-take k (drop a v) i 0 b, getD-drop) (s (a + i))
-    by (no h) = rw (List·getD-eq-default (take k (drop a v)) 0 {n = i} (omega (arith, h))) (omega arith)
-
 module _ (w q : ℕ) (v : Bytes) (small : Small v) where
   -- the first a bytes of v are in; the k from there on go into lane q + j
   pub absorb-more : (b₀ : Bytes) (l : List ℕ) (j k : ℕ) → q + j < length l → k ≤ w → w * j + k ≤ length v
@@ -107,7 +97,7 @@ module _ (w q : ℕ) (v : Bytes) (small : Small v) where
       let ly : length y ≡ k = length-take-le k (drop (w * j) v) (rw length-drop (omega arith)) in
       let lx : length (placed (w * q) x) + 0 ≡ w * (q + j) = simp (length-append, length-replicate, length-take-le (w * j) v (omega arith), mul-add) (omega arith) in
       let behind : xors (xors b₀ (placed (w * q) x)) (placed (w * (q + j)) y) ≡ xors b₀ (placed (w * q) x ++ y) = rw lx at (xors-behind b₀ (placed (w * q) x) 0 y) in
-      lane-in w l (q + j) y hl (rw ly hk) (small-part v (w * j) k small)
+      lane-in w l (q + j) y hl (rw ly hk) (small-part (w * j) k v small)
       ∙ ap (λ (z : Bytes). xors z (placed (w * (q + j)) y)) e ∙ behind
       ∙ rw (append-assoc, take-add (w * j) k v) refl
 
@@ -119,5 +109,5 @@ module _ (w q : ℕ) (v : Bytes) (small : Small v) where
       let lx : length (take (w * j) v) ≡ w * j = length-take-le (w * j) v (omega arith) in
       let p : w * q + w * j ≡ w * (q + j) = sym (mul-add w q j) in
       let o : toBytes k (bitXor (fromBytes y) (getD l (q + j) 0)) ≡ mask (bytes w l) (w * (q + j)) y
-      = rw ly at (lane-out w l (q + j) y hl (rw ly hk) (small-part v (w * j) k small)) in
+      = rw ly at (lane-out w l (q + j) y hl (rw ly hk) (small-part (w * j) k v small)) in
       rw (take-add (w * j) k v, mask-append (bytes w l) (w * q) (take (w * j) v) y (rw (lx, p) room), lx, p, o) refl

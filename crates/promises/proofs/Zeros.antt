@@ -2,7 +2,7 @@
 use lib.ListN.{replicate, length-replicate}
 use Rattle.motorist.specs.Instance.{Instance, stateLength}
 use Rattle.motorist.proofs.Shape.{State}
-use Rattle.motorist.proofs.Small.{small-zeros}
+use Rattle.endian.proofs.Small.{small-zeros}
 
 pub zeros : (i : Instance) → State i (replicate (stateLength i) 0)
 zeros i = record { long = length-replicate (stateLength i) 0; small = small-zeros (stateLength i) }

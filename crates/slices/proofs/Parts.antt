@@ -1,7 +1,7 @@
 -- Parts of a list: one that was lent and came back, one cut at the end, one copied, one more element done.
 use mathlib.Core.Path.{_≡_, refl, sym, _∙_}
 use mathlib.Core.List.{List, [], _∷_, _++_, append-assoc}
-use Prim.Native.Nat.{ℕ, suc, _+_, _≤_, _<_, min}
+use Prim.Native.Nat.{ℕ, zero, suc, _+_, _≤_, _<_, min}
 use native.Mathlib.Nat.{min-eq-left, min-eq-right}
 use native.Mathlib.Decide.{decLe}
 use native.Mathlib.Numerals.{add-one}
@@ -21,6 +21,13 @@ module _ (xs : List ℕ) (a k : ℕ) (ys : List ℕ) (fits : a + k ≤ length xs
 
   pub length-back : length (take a xs ++ (ys ++ drop k (drop a xs))) ≡ length xs
   length-back = simp (length-append, length-take-le a xs (omega arith), length-drop, is) (omega arith)
+
+-- what holds of every element, and of what stands for one past the end, holds of every element of the front
+pub every-take : {A : Type 0} (P : A → Type 0) (z : A) → P z → (n : ℕ) (l : List A) → ((i : ℕ) → P (getD l i z)) → (i : ℕ) → P (getD (take n l) i z)
+every-take P z p zero l h i = p
+every-take P z p (suc n) [] h i = p
+every-take P z p (suc n) (x ∷ l) h zero = h 0
+every-take P z p (suc n) (x ∷ l) h (suc i) = every-take P z p n l (λ j. h (suc j)) i
 
 -- a part that was lent at the end of what is done, and came back
 pub grow : {A : Type 0} (done d ys : List A) (i k : ℕ) → length done ≡ i

@@ -1,6 +1,6 @@
 -- The conditions of the rules in plain words: none of a message's or of a start's holds exactly where these do.
 use mathlib.Core.Path.{_≡_, refl, ap}
-use mathlib.Core.Bool.{Bool, true, false, not, _&&_, _||_}
+use mathlib.Core.Bool.{Bool, true, false, not, _&&_}
 use mathlib.Core.Logic.{_⊎_, inl, inr}
 use Prim.Native.Nat.{ℕ, _%_, _≤_, _<_}
 use native.Mathlib.Omega.{arith}
@@ -10,7 +10,7 @@ use Rattle.table.specs.Refusals.{None}
 use Rattle.table.specs.Choices.{asked, riding}
 use Rattle.table.specs.declared.Phase.{Phase}
 use Rattle.table.specs.declared.StartTag.{StartTag}
-use Rattle.slices.proofs.Agree.{and-both}
+use Rattle.slices.proofs.Bools.{and-both, or-either}
 use Rattle.motorist.specs.Instance.{Instance, Sound, textRate, tagLength}
 use Rattle.calls.specs.Session.{live}
 use Rattle.calls.specs.Outcome.{messageRules, startRules}
@@ -63,12 +63,8 @@ none-refused-start k n choice g a =
     tagged false e = refl
 
 -- ---- a session that may be used has a text start that there is, and that leaves room
-either : (a b : Bool) → (a || b) ≡ true → (a ≡ true) ⊎ (b ≡ true)
-either true b e = inl refl
-either false b e = inr e
-
 pub live-fits : (i : Instance) → Sound i → (phase : Phase) (at : ℕ) → live phase at ≡ true → at < textRate i
-live-fits i ok phase at e = go (either (eqb at 0) (eqb at tagLength) (and-both (riding phase) _ e .1))
+live-fits i ok phase at e = go (or-either (eqb at 0) (eqb at tagLength) (and-both (riding phase) _ e .1))
   where
     go : (eqb at 0 ≡ true) ⊎ (eqb at tagLength ≡ true) → at < textRate i
     go (inl h) = let z : at ≡ 0 = eqb-true at 0 h in omega (arith, ok .tagFits)
@@ -84,7 +80,7 @@ elsewhere phase at p q = rw (ne-eqb at 0 p, ne-eqb at tagLength q) (go (riding p
 
 -- and is the first byte of a lane of w bytes
 pub live-lane : (w : ℕ) → 0 % w ≡ 0 → tagLength % w ≡ 0 → (phase : Phase) (at : ℕ) → live phase at ≡ true → at % w ≡ 0
-live-lane w z l phase at e = go (either (eqb at 0) (eqb at tagLength) (and-both (riding phase) _ e .1))
+live-lane w z l phase at e = go (or-either (eqb at 0) (eqb at tagLength) (and-both (riding phase) _ e .1))
   where
     go : (eqb at 0 ≡ true) ⊎ (eqb at tagLength ≡ true) → at % w ≡ 0
     go (inl h) = rw (eqb-true at 0 h) z

@@ -105,13 +105,13 @@ module _ (i : Instance) (ok : Sound i) (f : Bytes → Bytes) where
   -- ---- unwrapping what was wrapped, with the same metadata and choice, gives the text, and the same blocks and states
   pub unwrap-wrap : (ss : States) (at : ℕ) (g : Message) → at < textRate i
       → unwrap i f ss at (withText (wrap i f ss at g .output) g)
-      ≡ record { output = g .text; blocks = wrap i f ss at g .blocks; states = wrap i f ss at g .states }
+      ≡ mirrored (g .text) (wrap i f ss at g)
   unwrap-wrap ss at g ha = message-back i f false ok ss at ha g
 
   -- ---- every ciphertext unwraps to a text whose wrapping gives the ciphertext; the blocks are those of the text, and the states those that they lead to
   pub wrap-unwrap : (ss : States) (at : ℕ) (c : Message) → at < textRate i
       → wrap i f ss at (withText (unwrap i f ss at c .output) c)
-      ≡ record { output = c .text; blocks = unwrap i f ss at c .blocks; states = unwrap i f ss at c .states }
+      ≡ mirrored (c .text) (unwrap i f ss at c)
   wrap-unwrap ss at c ha = message-back i f true ok ss at ha c
 
   pub unwrap-run : (ss : States) (at : ℕ) (c : Message) → at < textRate i

@@ -11,14 +11,11 @@ use Rattle.endian.specs.Little.{fromBytes, toBytes}
 use Rattle.keccak.specs.State.{bytes}
 use Rattle.endian.proofs.Small.{Small}
 use Rattle.motorist.specs.Piston.{Bytes, xors, mask}
-use Rattle.motorist.proofs.Xors.{length-xors}
+use Rattle.motorist.proofs.Xors.{length-mask}
 use Rattle.slices.proofs.Parts.{grow}
 use Rattle.piston.specs.Placed.{placed}
 use Rattle.piston.proofs.Xors.{xors-zeros, mask-zeros}
 use Rattle.piston.proofs.Lane.{absorb-more, stream-more}
-
-pub mask-length : (s : Bytes) (p : ℕ) (v : Bytes) → length (mask s p v) ≡ length v
-mask-length s p v = length-xors v (drop p s)
 
 -- a part, as the code cuts it
 cut : (a k : ℕ) → a + k - a ≡ k
@@ -57,12 +54,12 @@ module _ (w q : ℕ) (v : Bytes) where
         × (take (w * j) d ++ (ys ++ drop (w * j + w - w * j) (drop (w * j) d)) ≡ mask (bytes w l) (w * q) (take (w * (j + 1)) v) ++ drop (w * (j + 1)) d₀)
     stream-turn d₀ d ys hd room all e ex ey =
         let m : ℕ → Bytes = λ n. mask (bytes w l) (w * q) (take (w * n) v) in
-        let lm : length (m j) ≡ w * j = mask-length (bytes w l) (w * q) (take (w * j) v) ∙ length-take-le (w * j) v (omega arith) in
+        let lm : length (m j) ≡ w * j = length-mask (bytes w l) (w * q) (take (w * j) v) ∙ length-take-le (w * j) v (omega arith) in
         let here : w * (q + j) ≤ length (bytes w l) = rw (← all) (mul-le-mul-left w (le-of-lt inside)) in
         let y : ys ≡ toBytes w (bitXor (fromBytes (take w (drop (w * j) v))) (getD l (q + j) 0)) = rw (rw (cut (w * j) w) at ex) at ey in
         let done : take (w * j) d ++ (ys ++ drop (w * j + w - w * j) (drop (w * j) d)) ≡ m (j + 1) ++ drop (w * (j + 1)) d₀
         = rw (e, cut (w * j) w, grow (m j) d₀ ys (w * j) w lm, y, stream-more w q v small l j w inside (omega arith) room here, next-lane w j) refl in
-        let long : length (m (j + 1)) ≡ w * j + w = mask-length (bytes w l) (w * q) (take (w * (j + 1)) v) ∙ rw (next-lane w j) (length-take-le (w * j + w) v room) in
+        let long : length (m (j + 1)) ≡ w * j + w = length-mask (bytes w l) (w * q) (take (w * (j + 1)) v) ∙ rw (next-lane w j) (length-take-le (w * j + w) v room) in
         let left : length (drop (w * (j + 1)) d₀) ≡ length d₀ - (w * j + w) = rw (length-drop, next-lane w j) refl in
         (ap length done ∙ length-append (m (j + 1)) (drop (w * (j + 1)) d₀) ∙ omega (arith, long, left), done)
 
@@ -73,7 +70,7 @@ module _ (w q : ℕ) (v : Bytes) where
         → take (w * j) d ++ (ys ++ drop (length d - w * j) (drop (w * j) d)) ≡ mask (bytes w l) (w * q) v
     stream-rest d₀ d ys hd room few all e ex ey =
         let m : Bytes = mask (bytes w l) (w * q) (take (w * j) v) in
-        let lm : length m ≡ w * j = mask-length (bytes w l) (w * q) (take (w * j) v) ∙ length-take-le (w * j) v room in
+        let lm : length m ≡ w * j = length-mask (bytes w l) (w * q) (take (w * j) v) ∙ length-take-le (w * j) v room in
         let ld : length d ≡ length v = ap length e ∙ simp (length-append, lm, length-drop) (omega arith) in
         let lr : length (take (length d - w * j) (drop (w * j) d)) ≡ length v - w * j = rw (take-all (length d - w * j) (drop (w * j) d) (rw length-drop (omega arith)), length-drop) (omega arith) in
         let here : w * (q + j) ≤ length (bytes w l) = rw (← all) (mul-le-mul-left w (le-of-lt inside)) in

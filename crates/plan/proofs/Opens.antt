@@ -8,7 +8,7 @@ use lib.ListN.{length, getD, set, take, drop, replicate, length-append, length-d
 use lib.Seq.{getD-append-add, take-suc, getD-drop, length-take-le}
 use Rattle.motorist.specs.Piston.{Bytes}
 use Rattle.motorist.specs.Motorist.{keyPack}
-use Rattle.motorist.proofs.KeyPack.{length-pad}
+use Rattle.motorist.proofs.KeyPack.{length-pack}
 use Rattle.slices.proofs.Parts.{grow-one}
 use Rattle.motorist.specs.Instance.{Instance, Sound, packLength}
 use Rattle.rates.specs.Counts.{RatesOf}
@@ -28,11 +28,8 @@ module _ (pack : ℕ) (key nonce : Bytes) (fits : length key + 2 ≤ pack) where
   front-length : length front ≡ length key + 2
   front-length = simp length-append (omega arith)
 
-  pub pack-length : length (keyPack pack key) ≡ pack
-  pack-length = length-pad pack front (rw front-length fits)
-
   suv-length : length (keyPack pack key ++ nonce) ≡ pack + length nonce
-  suv-length = length-append (keyPack pack key) nonce ∙ rw pack-length refl
+  suv-length = length-append (keyPack pack key) nonce ∙ rw (length-pack pack key fits) refl
 
   pub opening-length : length (opening pack key nonce) ≡ pack + length nonce + 2
   opening-length = length-append (keyPack pack key ++ nonce) (1 ∷ 0 ∷ []) ∙ rw suv-length refl
@@ -42,7 +39,7 @@ module _ (pack : ℕ) (key nonce : Bytes) (fits : length key + 2 ≤ pack) where
     in-pack : i < pack → getD (opening pack key nonce) i 0 ≡ getD (keyPack pack key) i 0
     in-pack h =
         List·getD-append (keyPack pack key ++ nonce) (1 ∷ 0 ∷ []) 0 i (rw suv-length (omega arith))
-        ∙ List·getD-append (keyPack pack key) nonce 0 i (rw pack-length h)
+        ∙ List·getD-append (keyPack pack key) nonce 0 i (rw (length-pack pack key fits) h)
 
     in-front : i < length key + 2 → getD (opening pack key nonce) i 0 ≡ getD front i 0
     in-front h = in-pack (omega arith) ∙ List·getD-append front (replicate (pack - length front) 0) 0 i (rw front-length h)
@@ -67,7 +64,7 @@ module _ (pack : ℕ) (key nonce : Bytes) (fits : length key + 2 ≤ pack) where
 
     pub at-nonce : pack ≤ i → i < pack + length nonce → getD nonce (i - pack) 0 ≡ getD (opening pack key nonce) i 0
     at-nonce h g =
-        sym (List·getD-append (keyPack pack key ++ nonce) (1 ∷ 0 ∷ []) 0 i (rw suv-length g) ∙ behind (keyPack pack key) nonce pack i pack-length h)
+        sym (List·getD-append (keyPack pack key ++ nonce) (1 ∷ 0 ∷ []) 0 i (rw suv-length g) ∙ behind (keyPack pack key) nonce pack i (length-pack pack key fits) h)
 
     pub at-pistons : i ≡ pack + length nonce → _≡_ {A = ℕ} 1 (getD (opening pack key nonce) i 0)
     at-pistons e =

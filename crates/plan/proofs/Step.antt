@@ -1,25 +1,21 @@
 -- One block, put in part by part as the code does, over the states' bytes.
 use mathlib.Core.Path.{_≡_, refl, sym, ap, _∙_}
-use mathlib.Core.Bool.{Bool, true, false}
+use mathlib.Core.Bool.{Bool}
 use Prim.Native.Nat.{ℕ, zero, suc, _+_, _-_, _%_, _≤_}
 use native.Mathlib.Omega.{arith}
 use lib.ListN.{length, take, drop, length-drop}
 use lib.Seq.{length-take-le}
 use Rattle.motorist.specs.Instance.{Instance, Sound, fullRate}
 use Rattle.motorist.specs.Piston.{Bytes, xors, plain, cryptEnd}
+use Rattle.motorist.proofs.Xors.{length-plain}
 use Rattle.piston.specs.Placed.{placed}
 use Rattle.piston.proofs.Block.{block-parts}
-use Rattle.piston.proofs.Turns.{mask-length}
 use Rattle.plan.specs.Cut.{Fits, Bytewise, stepped, offsetsOf}
 use Rattle.plan.specs.declared.Cut.{Cut}
 
 pub crypt-end-some : (at n : ℕ) → (n ≡ 0 → ⊥) → at + n ≡ cryptEnd at n
 crypt-end-some at zero h = absurd (h refl)
 crypt-end-some at (suc n) h = refl
-
-plain-length : (decrypt : Bool) (s : Bytes) (at : ℕ) (t : Bytes) → length (plain decrypt s at t) ≡ length t
-plain-length true s at t = mask-length s at t
-plain-length false s at t = refl
 
 part-length : (l : Bytes) (a z : ℕ) → a ≤ z → z ≤ length l → length (take (z - a) (drop a l)) ≡ z - a
 part-length l a z h g = length-take-le (z - a) (drop a l) (rw length-drop (omega arith))
@@ -36,7 +32,7 @@ step i f decrypt w d k s t m e fits sa sr ea er =
     let p : Bytes = plain decrypt s (k .at) x in
     let lx : length x ≡ k .textend - k .text = part-length t (k .text) (k .textend) (fits .text-order) (fits .in-text) in
     let ly : length y ≡ k .metaend - k .meta = part-length m (k .meta) (k .metaend) (fits .meta-order) (fits .in-meta) in
-    let lp : length p ≡ k .textend - k .text = plain-length decrypt s (k .at) x ∙ lx in
+    let lp : length p ≡ k .textend - k .text = length-plain decrypt s (k .at) x ∙ lx in
     let b = block-parts i s (k .at) p (k .from) y e (rw lp (fits .text-fits)) (rw ly (fits .meta-fits)) in
     er ∙ ap f (rw ea refl ∙ sym (rw (lp, ly) at b))
 

@@ -11,6 +11,7 @@ use borrow.Author.Tests.{ltb-true, ltb-false}
 use lib.Dec.{ltb}
 use lib.ListN.{length, take, drop, length-drop}
 use lib.Seq.{length-take-le, drop-drop}
+use Rattle.slices.proofs.Bools.{never}
 use Rattle.slices.proofs.Parts.{take-back, drop-back, length-back}
 use Rattle.motorist.specs.Instance.{Instance, Sound, solo, textRate, fullRate}
 use Rattle.motorist.specs.Piston.{Bytes, mask, plain, block}
@@ -30,9 +31,6 @@ from-le rs zero = omega arith
 from-le rs (suc n) = omega arith
 
 -- ---- the test of the loop
-never : {A : Type 0} → true ≡ false → A
-never h = absurd (let z : _≡_ {A = ℕ} 0 1 = cc h in omega arith)
-
 goes-on : (x t y m : ℕ) → (ltb x t || ltb y m) ≡ true → (x < t) ⊎ (y < m)
 goes-on x t y m h = go (ltb x t) (ltb y m) refl refl h
   where

@@ -12,12 +12,9 @@ use lib.Dec.{eqb}
 use lib.ListN.{length, getD, take}
 use lib.Seq.{take-suc, length-take-le}
 use Rattle.slices.specs.Same.{sameBytes}
+use Rattle.slices.proofs.Bools.{never, and-both}
 
 -- ---- equal runs
-pub and-both : (a b : Bool) → (a && b) ≡ true → (a ≡ true) × (b ≡ true)
-and-both true b e = (refl, e)
-and-both false b e = absurd (let z : _≡_ {A = ℕ} 0 1 = cc in omega arith)
-
 pub same-refl : (xs : List ℕ) → sameBytes xs xs ≡ true
 unfolding sameBytes
 same-refl [] = refl
@@ -26,8 +23,8 @@ same-refl (x ∷ xs) = rw (eq-eqb x x refl) (same-refl xs)
 pub same-equal : (xs ys : List ℕ) → sameBytes xs ys ≡ true → xs ≡ ys
 unfolding sameBytes
 same-equal [] [] e = refl
-same-equal [] (y ∷ ys) e = absurd (let z : _≡_ {A = ℕ} 0 1 = cc in omega arith)
-same-equal (x ∷ xs) [] e = absurd (let z : _≡_ {A = ℕ} 0 1 = cc in omega arith)
+same-equal [] (y ∷ ys) e = never (sym e)
+same-equal (x ∷ xs) [] e = never (sym e)
 same-equal (x ∷ xs) (y ∷ ys) e =
     let h = and-both (eqb x y) (sameBytes xs ys) e in
     ap₂ (λ (a : ℕ) (l : List ℕ). a ∷ l) (eqb-true x y (h .0)) (same-equal xs ys (h .1))

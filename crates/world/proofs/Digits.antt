@@ -1,6 +1,6 @@
 -- Hexadecimal digits compared byte by byte, from the front.
 use mathlib.Core.Path.{_≡_, refl, sym, ap, _∙_}
-use mathlib.Core.Bool.{Bool, true, false, _&&_}
+use mathlib.Core.Bool.{true, _&&_}
 use mathlib.Core.List.{List, [], _∷_, _++_}
 use Prim.Native.Nat.{ℕ, suc, _+_, _*_, _/_, _≤_, _<_}
 use native.Mathlib.Numerals.{add-one}
@@ -9,14 +9,8 @@ use lib.Dec.{eqb}
 use lib.ListN.{length, getD, take}
 use lib.Seq.{take-suc, take-all, append-snoc}
 use borrow.Author.Tests.{eqb-true}
+use Rattle.slices.proofs.Bools.{and-both}
 use Rattle.world.specs.Hex.{digitOf, hexOf}
-
-pub not-so : {P : Type 0} → false ≡ true → P
-not-so e = let z : _≡_ {A = ℕ} 0 1 = cc in absurd (omega arith)
-
-both : (a b : Bool) → (a && b) ≡ true → (a ≡ true) × (b ≡ true)
-both true b e = (refl, e)
-both false b e = not-so e
 
 hex-snoc : (s : List ℕ) (b : ℕ) → hexOf (s ++ b ∷ []) ≡ hexOf s ++ digitOf (b / 16) ∷ digitOf b ∷ []
 unfolding hexOf
@@ -28,7 +22,7 @@ pub hex-more : (got hex : List ℕ) (i : ℕ) → i < length got → 2 * i + 1 <
     → (eqb (getD hex (2 * i) 0) (digitOf (getD got i 0 / 16)) && eqb (getD hex (2 * i + 1) 0) (digitOf (getD got i 0))) ≡ true
     → take (2 * (i + 1)) hex ≡ hexOf (take (i + 1) got)
 hex-more got hex i h k e t =
-    let b = both (eqb (getD hex (2 * i) 0) (digitOf (getD got i 0 / 16))) (eqb (getD hex (2 * i + 1) 0) (digitOf (getD got i 0))) t in
+    let b = and-both (eqb (getD hex (2 * i) 0) (digitOf (getD got i 0 / 16))) (eqb (getD hex (2 * i + 1) 0) (digitOf (getD got i 0))) t in
     let n : 2 * (i + 1) ≡ suc (suc (2 * i)) = omega arith in
     let m : 2 * i + 1 ≡ suc (2 * i) = add-one (2 * i) in
     let hi : getD hex (2 * i) 0 ≡ digitOf (getD got i 0 / 16) = eqb-true _ _ (b .0) in

@@ -5,8 +5,9 @@ use native.Mathlib.Omega.{arith}
 use borrow.Author.Tests.{not-false}
 use lib.ListN.{length, take}
 use borrow.Author.Needs.{needs}
+use Rattle.slices.proofs.Bools.{never}
 use Rattle.world.specs.Hex.{hexOf}
-use Rattle.world.proofs.Digits.{not-so, hex-more, hex-all}
+use Rattle.world.proofs.Digits.{hex-more, hex-all}
 use Rattle.world.proofs.compare.agrees.Statement.{statement}
 use Rattle.world.proofs.compare.agrees.Tie as tie
 
@@ -17,10 +18,10 @@ abbrev μ-loop : tie.MeasureT-loop
 μ-loop got hex i₀ i = length got - i
 
 returns : tie.Need-returns Inv-loop μ-loop
-returns c = not-so
+returns c = λ e. never (sym e)
 
 returns-2 : tie.Need-returns-2 Inv-loop μ-loop
-returns-2 c = not-so
+returns-2 c = λ e. never (sym e)
 
 loop-holds : tie.Need-loop-holds Inv-loop μ-loop
 unfolding hexOf
@@ -48,7 +49,7 @@ are-digits-requires : tie.Need-are-digits-requires Inv-loop μ-loop
 are-digits-requires c κs = search needs
 
 returns-3 : tie.Need-returns-3 Inv-loop μ-loop
-returns-3 c = not-so
+returns-3 c = λ e. never (sym e)
 
 add-i : tie.Need-add-i Inv-loop μ-loop
 add-i c = search needs

@@ -28,9 +28,6 @@ module _ (w q : ℕ) (v : Bytes) where
   pub absorb-none : (b : Bytes) → b ≡ xors b (placed (w * q) (take (w * 0) v))
   absorb-none b = rw (mul-zero, append-nil) (sym (xors-zeros b (w * q)))
 
-  pub stream-none : (s d : Bytes) → d ≡ mask s (w * q) (take (w * 0) v) ++ drop (w * 0) d
-  stream-none s d = rw mul-zero refl
-
   module _ (small : Small v) (l : List ℕ) (j x : ℕ) (inside : q + j < length l) where
     -- a whole lane more
     pub absorb-turn : (b₀ : Bytes) → w * j + w ≤ length v → bytes w l ≡ xors b₀ (placed (w * q) (take (w * j) v))

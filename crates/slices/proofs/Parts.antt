@@ -1,13 +1,11 @@
 -- Parts of a list: one that was lent and came back, one cut at the end, one copied, one more element done.
 use mathlib.Core.Path.{_≡_, refl, sym, _∙_}
 use mathlib.Core.List.{List, [], _∷_, _++_, append-assoc}
-use Prim.Native.Nat.{ℕ, zero, suc, _+_, _≤_, _<_, min}
-use native.Mathlib.Nat.{min-eq-left, min-eq-right}
-use native.Mathlib.Decide.{decLe}
+use Prim.Native.Nat.{ℕ, zero, suc, _+_, _≤_, _<_}
 use native.Mathlib.Numerals.{add-one}
 use native.Mathlib.Omega.{arith}
-use lib.ListN.{length, getD, set, take, drop, length-append, length-drop, drop-of-length-le}
-use lib.Seq.{take-all, take-at, drop-at, take-suc, drop-cons, set-at, append-snoc, length-take-le, drop-drop}
+use lib.ListN.{length, getD, set, take, drop, length-append, length-drop}
+use lib.Seq.{take-at, drop-at, take-suc, drop-cons, set-at, append-snoc, length-take-le, drop-drop}
 
 module _ (xs : List ℕ) (a k : ℕ) (ys : List ℕ) (fits : a + k ≤ length xs) (is : length ys ≡ k) where
   head : length (take a xs ++ ys) ≡ a + k
@@ -45,16 +43,3 @@ pub copy-more : {A : Type 0} (s d : List A) (i : ℕ) (z : A) → i < length s �
     → set (take i s ++ drop i d) i (getD s i z) ≡ take (i + 1) s ++ drop (i + 1) d
 copy-more s d i z h k =
     rw (grow-one (take i s) d i (getD s i z) z (length-take-le i s (omega arith)) k, add-one, ← take-suc s i z h) refl
-
-by-min : (n : ℕ) (l : List ℕ) → Dec (n ≤ length l) → (take (min n (length l)) l ≡ take n l) × (drop (min n (length l)) l ≡ drop n l)
-by-min n l (yes h) = rw (min-eq-left h) (refl, refl)
-by-min n l (no h) =
-    let g : length l ≤ n = omega (arith, h) in
-    rw (min-eq-right g) (take-all (length l) l (omega arith) ∙ sym (take-all n l g), drop-of-length-le l {i = length l} (omega arith) ∙ sym (drop-of-length-le l g))
-
--- what is asked past the end is not there
-pub take-min : (n : ℕ) (l : List ℕ) → take (min n (length l)) l ≡ take n l
-take-min n l = by-min n l (decLe n (length l)) .0
-
-pub drop-min : (n : ℕ) (l : List ℕ) → drop (min n (length l)) l ≡ drop n l
-drop-min n l = by-min n l (decLe n (length l)) .1

@@ -1,5 +1,5 @@
--- The laws of a block: its length, every byte of it as 01 lists them, and its text and metadata read back.
-use Prim.Native.Nat.{ℕ, zero, suc, _+_, _-_, _≤_, _<_}
+-- The laws of a block: its length, that its bytes are below 256, every byte of it as 01 lists them, and its text and metadata read back.
+use Prim.Native.Nat.{ℕ, zero, suc, _+_, _-_, _^_, _≤_, _<_}
 use mathlib.Core.Path.{_≡_, refl, sym, ap, _∙_}
 use mathlib.Core.List.{[], _∷_, _++_, append-assoc}
 use mathlib.Core.Logic.{_⊎_, inl, inr}
@@ -7,10 +7,12 @@ use native.Mathlib.Omega.{arith}
 use native.Mathlib.Nat.{add-zero}
 use lib.ListN.{length, getD, replicate, length-append, length-replicate, List·getD-append, List·getD-eq-default}
 use lib.Seq.{slice, getD-append-add, take-at, drop-at, drop-nil}
+use Rattle.endian.proofs.Small.{Small, small-append}
 use Rattle.motorist.specs.Instance.{Instance, Sound, stateLength, fullRate}
 use Rattle.motorist.specs.Piston.{Bytes, pad, cryptEnd, laid, block, eomOf, cryptEndOf, injectStartOf, injectEndOf, textOf, metaOf}
 use Rattle.motorist.proofs.Plans.{Fit}
 use Rattle.motorist.proofs.KeyPack.{length-pad}
+use Rattle.motorist.proofs.Small.{small-four, small-pad, small-laid}
 
 -- ---- bytes of strings that are padded, laid and joined; behind its end a string has zeros
 zeros-at : (n k : ℕ) → _≡_ {A = ℕ} (getD (replicate n 0) k 0) 0
@@ -71,6 +73,14 @@ module _ (i : Instance) (ok : Sound i) (at : ℕ) (t : Bytes) (from : ℕ) (m : 
   pub block-length : length (block i at t from m e) ≡ stateLength i
   unfolding block
   block-length = length-pad (stateLength i) (front ++ offsets) (rw (length-append front offsets, length-front) (ok .offsetsFit))
+
+  pub block-small : Small t → Small m → e < 2 ^ 8 → Small (block i at t from m e)
+  unfolding block
+  block-small ht hm he =
+      small-pad (stateLength i) (front ++ offsets)
+      (small-append front offsets (small-pad (fullRate i) (before ++ m) (small-append before m (small-pad from (laid at t) (small-laid at t ht)) hm))
+      (small-four e (cryptEnd at (length t)) from (from + length m) he
+      (omega (arith, fit .textFits, fit .metaFits, ok .offsetsSmall)) (omega (arith, fit .metaFits, ok .offsetsSmall)) (omega (arith, fit .metaFits, ok .offsetsSmall))))
 
   -- ---- every byte: the four offsets and zeros behind them, the metadata and zeros behind it, and before it the text between zeros
   pub block-offset : (k : ℕ) → getD (block i at t from m e) (fullRate i + k) 0 ≡ getD offsets k 0

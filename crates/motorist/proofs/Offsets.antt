@@ -5,13 +5,11 @@ use mathlib.Core.Bool.{Bool}
 use mathlib.Core.List.{List, [], _∷_, map}
 use native.Mathlib.Omega.{arith}
 use lib.ListN.{length, take, drop, length-drop}
-use lib.Seq.{length-take-le}
 use Rattle.motorist.specs.Instance.{Instance, Sound, textRate, fullRate}
 use Rattle.motorist.specs.Piston.{Bytes, block, plain, offsetsOf, offsetsFor}
 use Rattle.motorist.specs.Engine.{States, first, Round, textAfter, metaAfter, goesOn, injectStart, textFit, metaFit, deal, round, plan, fill, absorbs, ride, group}
-use Rattle.motorist.proofs.Plans.{Fit, Behind, behind, behind-less, inject-le, deal-fits, text-after-length, meta-after-length, Planned, last, more, planned}
+use Rattle.motorist.proofs.Plans.{Fit, Behind, behind, behind-less, inject-le, deal-fit, text-after-length, meta-after-length, Planned, last, more, planned}
 use Rattle.motorist.proofs.Blocks.{eom-back, crypt-end-back, inject-start-back, inject-end-back}
-use Rattle.motorist.proofs.Xors.{length-plain}
 
 module _ (i : Instance) (ok : Sound i) where
   block-offsets : (at : ℕ) (t : Bytes) (from : ℕ) (m : Bytes) (e : ℕ) → Fit i at (length t) from (length m)
@@ -26,9 +24,8 @@ module _ (i : Instance) (ok : Sound i) where
       let a : ℕ = textFit i at t in
       let b : ℕ = metaFit i from m in
       let x : Bytes = plain decrypt (first ss) at (take a text) in
-      let lx : length x ≡ a = length-plain decrypt (first ss) at (take a text) ∙ length-take-le a text (omega arith) in
-      let lb : length (take b meta) ≡ b = length-take-le b meta (omega arith) in
-      let p = rw (lx, lb) at (block-offsets at x from (take b meta) e (rw (lx, lb) (deal-fits i ok from at t m ha hf hb))) in
+      let d = deal-fit i ok decrypt (first ss) from at t m text meta ha hf hb ht hm in
+      let p = rw (d .text, d .meta) at (block-offsets at x from (take b meta) e (d .fit)) in
       let ih = deal-offsets decrypt from 0 (t - a) (m - b) es (drop 1 ss) (drop a text) (drop b meta) (omega (arith, ok .tagFits)) hf (behind-less i from t a hb) (rw (length-drop, ht)) (rw (length-drop, hm)) in
       λ j. p j ∷ ih j
 

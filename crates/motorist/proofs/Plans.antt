@@ -8,10 +8,12 @@ use mathlib.Core.List.{List, [], _∷_, map}
 use native.Mathlib.Omega.{arith}
 use native.Mathlib.Nat.{min-zero}
 use lib.ListN.{length, take, drop, length-drop, length-map}
+use lib.Seq.{length-take-le}
 use Rattle.motorist.specs.Instance.{Instance, Sound, textRate, fullRate, chainLength}
-use Rattle.motorist.specs.Piston.{Bytes, cryptEnd, eom}
+use Rattle.motorist.specs.Piston.{Bytes, cryptEnd, eom, plain}
 use Rattle.motorist.specs.Motorist.{taken}
-use Rattle.motorist.specs.Engine.{Blocks, Round, textLeft, metaLeft, textAfter, metaAfter, done, goesOn, injectStart, deal, round, planTo, plan, each, injectTo, injectCollective}
+use Rattle.motorist.specs.Engine.{Blocks, Round, textLeft, metaLeft, textAfter, metaAfter, done, goesOn, injectStart, textFit, metaFit, deal, round, planTo, plan, each, injectTo, injectCollective}
+use Rattle.motorist.proofs.Xors.{length-plain}
 
 -- a chaining value is never empty, so its EOM is its length
 eom-some : (n : ℕ) → 0 < n → eom n ≡ n
@@ -61,6 +63,12 @@ pub record Fit (i : Instance) (at t from m : ℕ) : Type 0 where
   pub textFits : cryptEnd at t ≤ from
   pub metaFits : from + m ≤ fullRate i
 
+-- x from `at` on and y from `from` on are what a block is dealt: a bytes and b, which have room in it
+pub record Dealt (i : Instance) (at a from b : ℕ) (x y : Bytes) : Type 0 where
+  pub text : length x ≡ a
+  pub meta : length y ≡ b
+  pub fit : Fit i at (length x) from (length y)
+
 -- metadata starts behind the text rate wherever there is text
 pub Behind : Instance → ℕ → ℕ → Type 0
 Behind i from t = (t ≡ 0) ⊎ (from ≡ textRate i)
@@ -106,6 +114,15 @@ module _ (i : Instance) where
     deal-fits from at t m ha hf (inl p) = record { textRoom = omega arith; textFits = rw (p, min-zero) (omega arith); metaFits = omega arith }
     deal-fits from at t m ha hf (inr p) =
         record { textRoom = omega arith; textFits = crypt-le at (min (textRate i - at) t) from (omega arith); metaFits = omega arith }
+
+    -- the plaintext and the metadata of the first block that is dealt
+    pub deal-fit : (decrypt : Bool) (s : Bytes) (from at t m : ℕ) (text meta : Bytes) → at < textRate i → from ≤ fullRate i → Behind i from t → length text ≡ t → length meta ≡ m
+        → Dealt i at (textFit i at t) from (metaFit i from m) (plain decrypt s at (take (textFit i at t) text)) (take (metaFit i from m) meta)
+    deal-fit decrypt s from at t m text meta ha hf hb ht hm =
+        let lx : length (plain decrypt s at (take (textFit i at t) text)) ≡ textFit i at t
+        = length-plain decrypt s at (take (textFit i at t) text) ∙ length-take-le (textFit i at t) text (omega arith) in
+        let ly : length (take (metaFit i from m) meta) ≡ metaFit i from m = length-take-le (metaFit i from m) meta (omega arith) in
+        record { text = lx; meta = ly; fit = rw (lx, ly) (deal-fits from at t m ha hf hb) }
 
     -- a round leaves less, so that a loop over rounds ends
     pub left-less : (at t m e : ℕ) (es : List ℕ) → at < textRate i → 0 < leftText at t m (e ∷ es) + leftMeta at t m (e ∷ es)

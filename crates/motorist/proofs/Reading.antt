@@ -6,13 +6,12 @@ use mathlib.Core.List.{List, [], _∷_, _++_, map, append-assoc, append-nil}
 use native.Mathlib.Omega.{arith}
 use borrow.Author.Tests.{eq-eqb, ne-eqb}
 use lib.ListN.{length, take, drop, replicate, length-take, length-drop, take-append-drop}
-use lib.Seq.{length-take-le}
 use Rattle.motorist.specs.Instance.{Instance, Sound, textRate, fullRate, chainLength, tagLength}
 use Rattle.motorist.specs.Piston.{Bytes, eom, eomOf}
 use Rattle.motorist.specs.Engine.{States, Blocks, first, Round, textAfter, metaAfter, goesOn, injectStart, textFit, metaFit, deal, round, Ride, fill, absorbs, ride, group, each, injectCollective}
 use Rattle.motorist.specs.Motorist.{taken, ends, knot}
 use Rattle.motorist.specs.Reader.{End, continues, ties, closes, Group, Mode, starting, inside, knotting, turn, endOf, textsOf, metasOf, step, read}
-use Rattle.motorist.proofs.Plans.{eom-chain, alone-fits, Fit, Behind, behind, behind-less, inject-le, deal-fits, round-left, text-after-length, meta-after-length, Planned, last, more, planned, Injected, final, further, injected}
+use Rattle.motorist.proofs.Plans.{eom-chain, alone-fits, Fit, Behind, behind, behind-less, inject-le, deal-fit, round-left, text-after-length, meta-after-length, Planned, last, more, planned, Injected, final, further, injected}
 use Rattle.motorist.proofs.Blocks.{eom-back, meta-back, text-back}
 
 -- nothing is left behind it, so it is all
@@ -43,9 +42,7 @@ module _ (i : Instance) (ok : Sound i) where
   deal-read from at t m (e ∷ es) ss text meta ha hf hb ht hm =
       let a : ℕ = textFit i at t in
       let b : ℕ = metaFit i from m in
-      let la : length (take a text) ≡ a = length-take-le a text (omega arith) in
-      let lb : length (take b meta) ≡ b = length-take-le b meta (omega arith) in
-      let fit : Fit i at (length (take a text)) from (length (take b meta)) = rw (la, lb) (deal-fits i ok from at t m ha hf hb) in
+      let fit : Fit i at (length (take a text)) from (length (take b meta)) = deal-fit i ok false (first ss) from at t m text meta ha hf hb ht hm .fit in
       let ih = deal-read from 0 (t - a) (m - b) es (drop 1 ss) (drop a text) (drop b meta) (omega (arith, ok .tagFits)) hf (behind-less i from t a hb) (rw (length-drop, ht)) (rw (length-drop, hm)) in (
         rw (text-back i ok at (take a text) from (take b meta) e fit, append-assoc, ih .0, take-append-drop),
         rw (meta-back i ok at (take a text) from (take b meta) e fit, append-assoc, ih .1, take-append-drop),
@@ -58,11 +55,8 @@ module _ (i : Instance) (ok : Sound i) where
     round-eom : eomOf i (first blocks) ≡ e
     unfolding round
     round-eom =
-        let a : ℕ = textFit i at t in
-        let b : ℕ = metaFit i (injectStart i t) m in
-        let la : length (take a text) ≡ a = length-take-le a text (omega arith) in
-        let lb : length (take b meta) ≡ b = length-take-le b meta (omega arith) in
-        eom-back i ok at (take a text) (injectStart i t) (take b meta) e (rw (la, lb) (deal-fits i ok (injectStart i t) at t m ha (inject-le i ok t) (behind i t)))
+        eom-back i ok at (take (textFit i at t) text) (injectStart i t) (take (metaFit i (injectStart i t) m) meta) e
+        (deal-fit i ok false (first ss) (injectStart i t) at t m text meta ha (inject-le i ok t) (behind i t) ht hm .fit)
 
     round-read : (textsOf i at blocks ++ textAfter (round i at t m (e ∷ es)) text ≡ text) × (metasOf i blocks ++ metaAfter (round i at t m (e ∷ es)) meta ≡ meta)
     unfolding round

@@ -8,17 +8,16 @@ use mathlib.Core.List.{List, [], _∷_, _++_, map}
 use native.Mathlib.Omega.{arith}
 use native.Mathlib.Nat.{min-zero, add-suc}
 use lib.ListN.{length, take, drop, replicate, length-append, length-take, length-drop, length-replicate, length-map}
-use lib.Seq.{length-take-le}
 use Rattle.motorist.specs.Instance.{Instance, Sound, pistons, stateLength, textRate, fullRate, chainLength, packLength, tagLength}
-use Rattle.motorist.specs.Piston.{Bytes, pad, cryptEnd, eom, laid, block, xors, plain, cryptEndOf}
+use Rattle.motorist.specs.Piston.{Bytes, cryptEnd, eom, block, xors, plain, cryptEndOf}
 use Rattle.motorist.specs.Engine.{States, Blocks, first, Round, textAfter, metaAfter, goesOn, injectStart, textFit, metaFit, deal, round, Ride, fill, absorbs, run, ride, group, each}
 use Rattle.motorist.specs.Motorist.{Start, Message, taken, ends, chains, chain, fresh, keyPack, suv, diversify, knots, inject, knot, start, message}
 use Rattle.motorist.specs.Session.{Step, step, steps, sessionBlocks}
-use Rattle.motorist.proofs.Plans.{eom-chain, alone-fits, taken-fits, goes-on-length, text-after-length, meta-after-length, Fit, Behind, behind, behind-less, inject-le, deal-fits, Planned, last, more, planned, Injected, final, further, injected}
-use Rattle.motorist.proofs.Blocks.{block-length, crypt-end-back}
-use Rattle.motorist.proofs.Xors.{length-xors, length-plain}
+use Rattle.motorist.proofs.Plans.{eom-chain, alone-fits, taken-fits, goes-on-length, text-after-length, meta-after-length, Fit, Behind, behind, behind-less, inject-le, deal-fit, Planned, last, more, planned, Injected, final, further, injected}
+use Rattle.motorist.proofs.Blocks.{block-length, block-small, crypt-end-back}
+use Rattle.motorist.proofs.Xors.{length-xors}
 use Rattle.endian.proofs.Small.{Small, small-nil, small-cons, small-append, small-zeros, small-take, small-drop}
-use Rattle.motorist.proofs.Small.{Each, each-append, each-replicate, small-four, small-pad, small-laid, small-xors, small-plain}
+use Rattle.motorist.proofs.Small.{Each, each-append, each-replicate, small-pad, small-xors, small-plain}
 
 -- ---- states, and a permutation that keeps them
 pub record State (i : Instance) (s : Bytes) : Type 0 where
@@ -80,7 +79,6 @@ module _ (i : Instance) (ok : Sound i) where
   eom-small e (inr (inr (inr h))) = omega arith
 
   block-shaped : (at : ℕ) (t : Bytes) (from : ℕ) (m : Bytes) (e : ℕ) → Fit i at (length t) from (length m) → Small t → Small m → Eom i e → Shaped i from (block i at t from m e)
-  unfolding block
   block-shaped at t from m e fit ht hm he =
       record {
         at = at;
@@ -91,24 +89,8 @@ module _ (i : Instance) (ok : Sound i) where
         fit = fit;
         end = he;
         long = block-length i ok at t from m e fit;
-        small =
-            small-pad (stateLength i) (front ++ offsets)
-            (small-append front offsets (small-pad (fullRate i) (before ++ m) (small-append before m (small-pad from (laid at t) (small-laid at t ht)) hm)) small-offsets);
+        small = block-small i ok at t from m e fit ht hm (eom-small e he);
       }
-    where
-      before : Bytes
-      before = pad from (laid at t)
-
-      front : Bytes
-      front = pad (fullRate i) (before ++ m)
-
-      offsets : Bytes
-      offsets = e ∷ cryptEnd at (length t) ∷ from ∷ (from + length m) ∷ []
-
-      small-offsets : Small offsets
-      small-offsets =
-          small-four e (cryptEnd at (length t)) from (from + length m) (eom-small e he)
-          (omega (arith, fit .textFits, fit .metaFits, ok .offsetsSmall)) (omega (arith, fit .metaFits, ok .offsetsSmall)) (omega (arith, fit .metaFits, ok .offsetsSmall))
 
   -- ---- states
   first-small : (ss : States) → Each (State i) ss → Small (first ss)
@@ -127,10 +109,8 @@ module _ (i : Instance) (ok : Sound i) where
   deal-shaped decrypt from at t m (e ∷ es) ss text meta ha hf hb ht hm st sm he hs =
       let a : ℕ = textFit i at t in
       let b : ℕ = metaFit i from m in
-      let x : Bytes = plain decrypt (first ss) at (take a text) in
-      let lx : length x ≡ a = length-plain decrypt (first ss) at (take a text) ∙ length-take-le a text (omega arith) in
-      let lb : length (take b meta) ≡ b = length-take-le b meta (omega arith) in (
-        block-shaped at x from (take b meta) e (rw (lx, lb) (deal-fits i ok from at t m ha hf hb))
+      let x : Bytes = plain decrypt (first ss) at (take a text) in (
+        block-shaped at x from (take b meta) e (deal-fit i ok decrypt (first ss) from at t m text meta ha hf hb ht hm .fit)
             (small-plain decrypt (first ss) at (take a text) (first-small ss hs) (small-take a text st)) (small-take b meta sm) (he .0),
         deal-shaped decrypt from 0 (t - a) (m - b) es (drop 1 ss) (drop a text) (drop b meta) (omega (arith, ok .tagFits)) hf (behind-less i from t a hb)
             (rw (length-drop, ht)) (rw (length-drop, hm)) (small-drop a text st) (small-drop b meta sm) (he .1) (others ss hs),
@@ -153,10 +133,8 @@ module _ (i : Instance) (ok : Sound i) where
       let a : ℕ = textFit i at t in
       let b : ℕ = metaFit i from m in
       let x : Bytes = plain decrypt (first ss) at (take a text) in
-      let lx : length x ≡ a = length-plain decrypt (first ss) at (take a text) ∙ length-take-le a text (omega arith) in
-      let lb : length (take b meta) ≡ b = length-take-le b meta (omega arith) in
-      let c : cryptEndOf i (block i at x from (take b meta) e) ≡ cryptEnd at a
-      = crypt-end-back i ok at x from (take b meta) e (rw (lx, lb) (deal-fits i ok from at t m ha (inject-le i ok t) (behind i t))) ∙ rw lx in
+      let d = deal-fit i ok decrypt (first ss) from at t m text meta ha (inject-le i ok t) (behind i t) ht hm in
+      let c : cryptEndOf i (block i at x from (take b meta) e) ≡ cryptEnd at a = crypt-end-back i ok at x from (take b meta) e (d .fit) ∙ rw (d .text) in
       rw (c, same-start at t ha) (deal-shaped decrypt from at t m (e ∷ es) ss text meta ha (inject-le i ok t) (behind i t) ht hm st sm he hs)
 
   goes-eoms : (es : List ℕ) → Each (Eom i) (goesOn es)

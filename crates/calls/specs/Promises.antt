@@ -14,7 +14,7 @@ use Rattle.motorist.specs.Instance.{Instance, tagLength}
 use Rattle.motorist.specs.Piston.{Bytes}
 use Rattle.motorist.specs.Engine.{Blocks, Ride, run}
 use Rattle.motorist.specs.Motorist.{Message, taken, tag, fresh, start, wrap, unwrap, message}
-use Rattle.motorist.specs.Session.{Step, partnerOf, plaintextOf, withText, Steps}
+use Rattle.motorist.specs.Session.{Step, mirrorOf, plaintextOf, withText, Steps}
 use Rattle.calls.specs.Session.{View, Records}
 use Rattle.calls.specs.Outcome.{Outcome, answer, refused, wrapRules, openRules, wrapped, begun, wrapOf, unwrapOf}
 use Rattle.calls.specs.Chain.{Call, Opening, callOf, outcomes, endOf, openingOf, begins}
@@ -103,7 +103,7 @@ module _ {R : Type 0} (K : Records R) (i : Instance) (f : Bytes → Bytes) where
 abbrev pub andThen : Steps → Step → Ride → Steps
 andThen y x r =
     record {
-      partner = y .partner ++ (partnerOf x (r .output) ∷ []);
+      mirror = y .mirror ++ (mirrorOf x (r .output) ∷ []);
       messages = y .messages ++ (plaintextOf x (r .output) ∷ []);
       tags = y .tags ++ (tag (r .states) ∷ []);
       blocks = y .blocks ++ r .blocks;

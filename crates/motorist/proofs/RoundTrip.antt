@@ -11,7 +11,7 @@ use Rattle.motorist.specs.Instance.{Instance, Sound, textRate, tagLength
 use Rattle.motorist.specs.Piston.{Bytes, mask}
 use Rattle.motorist.specs.Engine.{States, first, Round, textAfter, metaAfter, goesOn, round, Ride, crypt, fill, absorbs, run, ride, group}
 use Rattle.motorist.specs.Motorist.{Message, knots, ends, knot, message, wrap, unwrap}
-use Rattle.motorist.specs.Session.{Step, step, withText, partnerOf, plaintextOf, Steps, steps}
+use Rattle.motorist.specs.Session.{Step, step, withText, mirrorOf, plaintextOf, Steps, steps}
 use Rattle.motorist.proofs.Plans.{Planned, last, more, planned, round-left, text-after-length}
 use Rattle.motorist.proofs.Rides.{Within, round-within, group-output, message-run}
 use Rattle.motorist.proofs.Xors.{length-xors, xors-xors, plain-mask}
@@ -86,16 +86,16 @@ module _ (i : Instance) (f : Bytes → Bytes) (decrypt : Bool) where
     unfolding message
     message-back g = knot-back (knots i g) (g .text) (g .meta)
 
--- ---- the partner's step
-partner-twice : (x : Step) (o : Bytes) → partnerOf (partnerOf x o) (x .message .text) ≡ x
-partner-twice x o = go (x .decrypt)
+-- ---- the mirror of a step
+mirror-twice : (x : Step) (o : Bytes) → mirrorOf (mirrorOf x o) (x .message .text) ≡ x
+mirror-twice x o = go (x .decrypt)
   where
     go : (d : Bool) → step (not (not d)) (x .message) ≡ step d (x .message)
     go true = refl
     go false = refl
 
-partner-plaintext : (x : Step) (o : Bytes) → plaintextOf (partnerOf x o) (x .message .text) ≡ plaintextOf x o
-partner-plaintext x o = go (x .decrypt)
+mirror-plaintext : (x : Step) (o : Bytes) → plaintextOf (mirrorOf x o) (x .message .text) ≡ plaintextOf x o
+mirror-plaintext x o = go (x .decrypt)
   where
     go : (d : Bool) → plaintextOf (step (not d) (withText o (x .message))) (x .message .text) ≡ plaintextOf (step d (x .message)) o
     go true = refl
@@ -118,14 +118,14 @@ module _ (i : Instance) (ok : Sound i) (f : Bytes → Bytes) where
       → unwrap i f ss at c .states ≡ run i f ss (wrap i f ss at (withText (unwrap i f ss at c .output) c) .blocks)
   unwrap-run ss at c ha = message-run i f true ss at c ∙ ap (λ x. run i f ss x) (sym (ap (λ (x : Ride). x .blocks) (wrap-unwrap ss at c ha)))
 
-  -- ---- steps: the partner, who takes each output the other way, has the messages, tags, blocks and states of the one who went first
+  -- ---- steps: their mirrors, each of which takes an output the other way, have the same messages, tags, blocks and states
   pub steps-back : (ss : States) (at : ℕ) (xs : List Step) → at < textRate i
-      → steps i f ss at (steps i f ss at xs .partner)
+      → steps i f ss at (steps i f ss at xs .mirror)
       ≡ (let y : Steps = steps i f ss at xs in
-      record { partner = xs; messages = y .messages; tags = y .tags; blocks = y .blocks; states = y .states })
+      record { mirror = xs; messages = y .messages; tags = y .tags; blocks = y .blocks; states = y .states })
   steps-back ss at [] ha = refl
   steps-back ss at (x ∷ xs) ha =
       let r : Ride = message i f (x .decrypt) ss at (x .message) in
       let b = message-back i f (x .decrypt) ok ss at ha (x .message) in
       let ih = steps-back (r .states) tagLength xs (ok .tagFits) in
-      rw (b, ih, partner-twice x (r .output), partner-plaintext x (r .output))
+      rw (b, ih, mirror-twice x (r .output), mirror-plaintext x (r .output))

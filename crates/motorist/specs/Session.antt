@@ -19,16 +19,16 @@ step decrypt g = record { decrypt = decrypt; message = g }
 abbrev pub withText : Bytes → Message → Message
 withText t g = record { text = t; meta = g .meta; forgets = g .forgets }
 
--- of a step that put out the bytes o: the step of the partner, who is given o and goes the other way; and the message in plaintext
-abbrev pub partnerOf : Step → Bytes → Step
-partnerOf x o = step (not (x .decrypt)) (withText o (x .message))
+-- of a step that put out the bytes o: its mirror, the step that is given o and goes the other way; and the message in plaintext
+abbrev pub mirrorOf : Step → Bytes → Step
+mirrorOf x o = step (not (x .decrypt)) (withText o (x .message))
 
 abbrev pub plaintextOf : Step → Bytes → Message
 plaintextOf x o = elim (x .decrypt) [ true ↦ withText o (x .message) | false ↦ x .message ]
 
--- what comes of steps: of each the partner's step, the message in plaintext and the tag; of all, the blocks and the states after them
+-- what comes of steps: of each its mirror, the message in plaintext and the tag; of all, the blocks and the states after them
 pub record Steps : Type 0 where
-  pub partner : List Step
+  pub mirror : List Step
   pub messages : List Message
   pub tags : List Bytes
   pub blocks : List Blocks
@@ -37,12 +37,12 @@ pub record Steps : Type 0 where
 module _ (i : Instance) (f : Bytes → Bytes) where
   -- steps from the states ss on, the first text from `at` on, each later one behind the tag before it
   abbrev pub steps : States → ℕ → List Step → Steps
-  steps ss at [] = record { partner = []; messages = []; tags = []; blocks = []; states = ss }
+  steps ss at [] = record { mirror = []; messages = []; tags = []; blocks = []; states = ss }
   steps ss at (x ∷ xs) =
       let r : Ride = message i f (x .decrypt) ss at (x .message) in
       let y : Steps = steps (r .states) (taken true) xs in
       record {
-        partner = partnerOf x (r .output) ∷ y .partner;
+        mirror = mirrorOf x (r .output) ∷ y .mirror;
         messages = plaintextOf x (r .output) ∷ y .messages;
         tags = tag (r .states) ∷ y .tags;
         blocks = r .blocks ++ y .blocks;

@@ -10,7 +10,7 @@ use Rattle.motorist.specs.Piston.{Bytes, xors, plain, cryptEnd}
 use Rattle.motorist.proofs.Xors.{length-plain}
 use Rattle.piston.specs.Placed.{placed}
 use Rattle.piston.proofs.Block.{block-parts}
-use Rattle.plan.specs.Cut.{Fits, Bytewise, stepped, offsetsOf}
+use Rattle.plan.specs.Cut.{Fits, Bytewise, stepped, offsetBytes}
 use Rattle.plan.specs.declared.Cut.{Cut}
 
 pub crypt-end-some : (at n : ℕ) → (n ≡ 0 → ⊥) → at + n ≡ cryptEnd at n
@@ -24,7 +24,7 @@ part-length l a z h g = length-take-le (z - a) (drop a l) (rw length-drop (omega
 pub step : (i : Instance) (f : Bytes → Bytes) (decrypt : Bool) (w d : ℕ) (k : Cut) (s t m : Bytes) (e : ℕ) → Fits i w (length t) (length m) d k
     → (sa sr : Bytes)
     → sa ≡ xors s (placed (k .at) (plain decrypt s (k .at) (take (k .textend - k .text) (drop (k .text) t))))
-    → sr ≡ f (xors (xors sa (placed (k .from) (take (k .metaend - k .meta) (drop (k .meta) m)))) (placed (fullRate i) (offsetsOf k e)))
+    → sr ≡ f (xors (xors sa (placed (k .from) (take (k .metaend - k .meta) (drop (k .meta) m)))) (placed (fullRate i) (offsetBytes k e)))
     → sr ≡ stepped i f decrypt s (k .at) (take (k .textend - k .text) (drop (k .text) t)) (k .from) (take (k .metaend - k .meta) (drop (k .meta) m)) e
 step i f decrypt w d k s t m e fits sa sr ea er =
     let x : Bytes = take (k .textend - k .text) (drop (k .text) t) in

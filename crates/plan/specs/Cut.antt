@@ -47,9 +47,9 @@ abbrev pub eomAt : Bool → ℕ → ℕ
 eomAt true e = 0
 eomAt false e = e
 
--- the four offset bytes of the block of a cut; each is a byte
-abbrev pub offsetsOf : Cut → ℕ → Bytes
-offsetsOf k e = e ∷ cryptEnd (k .at) (k .textend - k .text) ∷ k .from ∷ (k .from + (k .metaend - k .meta)) ∷ []
+-- the four offset bytes of the block of a cut, the EOM first as they stand there; each is a byte
+abbrev pub offsetBytes : Cut → ℕ → Bytes
+offsetBytes k e = e ∷ cryptEnd (k .at) (k .textend - k .text) ∷ k .from ∷ (k .from + (k .metaend - k .meta)) ∷ []
 
 pub record Bytewise (k : Cut) : Type 0 where
   pub text-order : k .text ≤ k .textend

@@ -5,7 +5,7 @@ ghost use mathlib.Core.Bool.{_||_};
 ghost use Prim.Native.Nat.{_+_, _≤_, _<_};
 ghost use lib.Dec.{ltb};
 ghost use lib.ListN.{length, getD, take, drop};
-ghost use Rattle.plan.specs.Cut.{fromBy, cutBy, eomAt, Bytewise, offsetsOf};
+ghost use Rattle.plan.specs.Cut.{fromBy, cutBy, eomAt, Bytewise, offsetBytes};
 ghost use Rattle.plan.specs.Opening.{opening};
 ghost use Rattle.motorist.specs.Piston.{cryptEnd, eom};
 ghost use Rattle.motorist.specs.Motorist.{taken};
@@ -72,7 +72,7 @@ fn crypt_end(at: usize, n: usize) -> usize
 // The four offset bytes of a block: EOM, crypt end, inject start, inject end.
 pub fn offsets(cut: Cut, eom: u8) -> [u8; 4]
     requires { ⌜ Bytewise cut ⌝ }
-    ensures { λ r. ⌜ r ≡ offsetsOf cut eom ⌝ }
+    ensures { λ r. ⌜ r ≡ offsetBytes cut eom ⌝ }
 {
     let from = cut.from;
     let end = crypt_end(cut.at, cut.textend - cut.text);

@@ -44,9 +44,6 @@ module _ (pack : ℕ) (key nonce : Bytes) (fits : length key + 2 ≤ pack) where
     in-front : i < length key + 2 → getD (opening pack key nonce) i 0 ≡ getD front i 0
     in-front h = in-pack (omega arith) ∙ List·getD-append front (replicate (pack - length front) 0) 0 i (rw front-length h)
 
-    pub at-length : i ≡ 0 → pack ≡ getD (opening pack key nonce) i 0
-    at-length e = sym (in-front (omega arith) ∙ rw e refl)
-
     pub at-key : (i ≡ 0 → ⊥) → i ≤ length key → getD key (i - 1) 0 ≡ getD (opening pack key nonce) i 0
     at-key n h =
         let e : i ≡ suc (i - 1) = omega (arith, n) in

@@ -7,7 +7,7 @@ use native.Mathlib.Omega.{arith}
 use borrow.Author.Tests.{ltb-false, le-ltb, leb-true, le-leb, eqb-true, eq-eqb, ne-eqb, not-false}
 use lib.Dec.{leb, eqb}
 use Rattle.table.specs.Refusals.{None}
-use Rattle.table.specs.Choices.{asked, riding}
+use Rattle.table.specs.Choices.{asked, isRiding}
 use Rattle.table.specs.declared.Phase.{Phase}
 use Rattle.table.specs.declared.StartTag.{StartTag}
 use Rattle.slices.proofs.Bools.{and-both, or-either}
@@ -62,9 +62,9 @@ none-refused-start k n choice g a =
     tagged true e = ap not (eq-eqb g tagLength (e refl))
     tagged false e = refl
 
--- ---- a session that may be used has a text start that there is, and that leaves room
+-- ---- a session that may be used has a text start that leaves room
 pub live-fits : (i : Instance) → Sound i → (phase : Phase) (at : ℕ) → live phase at ≡ true → at < textRate i
-live-fits i ok phase at e = go (or-either (eqb at 0) (eqb at tagLength) (and-both (riding phase) _ e .1))
+live-fits i ok phase at e = go (or-either (eqb at 0) (eqb at tagLength) (and-both (isRiding phase) _ e .1))
   where
     go : (eqb at 0 ≡ true) ⊎ (eqb at tagLength ≡ true) → at < textRate i
     go (inl h) = let z : at ≡ 0 = eqb-true at 0 h in omega (arith, ok .tagFits)
@@ -72,7 +72,7 @@ live-fits i ok phase at e = go (or-either (eqb at 0) (eqb at tagLength) (and-bot
 
 -- one with another text start may not be used
 pub elsewhere : (phase : Phase) (at : ℕ) → (at ≡ 0 → ⊥) → (at ≡ tagLength → ⊥) → live phase at ≡ false
-elsewhere phase at p q = rw (ne-eqb at 0 p, ne-eqb at tagLength q) (go (riding phase))
+elsewhere phase at p q = rw (ne-eqb at 0 p, ne-eqb at tagLength q) (go (isRiding phase))
   where
     go : (b : Bool) → (b && false) ≡ false
     go true = refl
@@ -80,7 +80,7 @@ elsewhere phase at p q = rw (ne-eqb at 0 p, ne-eqb at tagLength q) (go (riding p
 
 -- and is the first byte of a lane of w bytes
 pub live-lane : (w : ℕ) → 0 % w ≡ 0 → tagLength % w ≡ 0 → (phase : Phase) (at : ℕ) → live phase at ≡ true → at % w ≡ 0
-live-lane w z l phase at e = go (or-either (eqb at 0) (eqb at tagLength) (and-both (riding phase) _ e .1))
+live-lane w z l phase at e = go (or-either (eqb at 0) (eqb at tagLength) (and-both (isRiding phase) _ e .1))
   where
     go : (eqb at 0 ≡ true) ⊎ (eqb at tagLength ≡ true) → at % w ≡ 0
     go (inl h) = rw (eqb-true at 0 h) z

@@ -28,7 +28,7 @@ module _ {R : Type 0} (K : Records R) (i : Instance) (f : Bytes → Bytes) where
       still [] = refl
       still (c ∷ cs) = rw (call-away K i f x c e) (still cs)
 
-  -- a session with a text start that there is not
+  -- a session with a text start other than 0 or 16
   elsewhere-closed : (x : R) → (K .shows x .at ≡ 0 → ⊥) → (K .shows x .at ≡ tagLength → ⊥) → Closed K i f x
   elsewhere-closed x p q = closed x (elsewhere (K .shows x .phase) (K .shows x .at) p q)
 

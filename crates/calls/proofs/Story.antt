@@ -98,4 +98,11 @@ module _ {b w k : ℕ} (ok : Sound (solo b w k)) (f : Bytes → Bytes) {R : Type
       (ap (λ (x : List Blocks). x ++ rest) (sym (fed-session a cs h)) ∙ e ∙ fed-session d ds l)
 
   pub story : Story K one f
-  story = record { told = same-story; state = fed-state; runs = fed-runs K one f; front = story-front }
+  story =
+      record {
+        told = same-story;
+        blocks = λ a cs h. ap (λ (l : List Blocks). start one f (startIn a) .blocks ++ l) (chain-told a cs h .0);
+        state = fed-state;
+        runs = fed-runs K one f;
+        front = story-front;
+      }

@@ -1,4 +1,4 @@
--- The three demands, as statements over any kind of record that serves an instance: what proofs/ proves, and what Lake and River promise.
+-- The three demands, as statements over any kind of record: what proofs/ proves of records that serve an instance, and what Lake and River promise.
 use mathlib.Core.Path.{_≡_}
 use mathlib.Core.Bool.{Bool, true, false, not, _&&_}
 use mathlib.Core.List.{List, [], _∷_, _++_, map}
@@ -48,7 +48,7 @@ abbrev pub held : Bool → Ride → Bytes → Bytes
 held true r g = tag (r .states)
 held false r g = g
 
--- a call that is refused as on a session that was not started: 1, nothing written, no run, session and buffers as they were
+-- a call that is refused as on a session that was not started: 1, 0 written, 0 runs, session and buffers as they were
 abbrev pub turnedAway : {R : Type 0} → R → Call → Outcome R
 turnedAway x c = refused not-started x (c .out) (c .tag)
 
@@ -59,8 +59,8 @@ module _ {R : Type 0} (K : Records R) where
     pub refusal : (n : ℕ) → o .answer .number ≡ suc n → o ≡ refused (suc n) x out g
     pub done : o .answer .number ≡ done → o ≡ wrapped K r t out
 
-  -- an unwrap: likewise, and what the ride gives has the tag that was given; but if the tag differs,
-  -- the failed record and zeros over the text's length, nothing written and no run; the tag that was given stays in any case
+  -- an unwrap: likewise; but at refusal 8 the failed record, zeros over the text's length and the bytes beyond as they were, 0 written and 0 runs;
+  -- the tag that was given stays in every case
   pub record UnwrapLeaves (o : Outcome R) (x : R) (r : Ride) (t : ℕ) (out g : Bytes) : Type 0 where
     pub refusal : (n : ℕ) → (suc n ≡ tag-differs → ⊥) → o .answer .number ≡ suc n → o ≡ refused (suc n) x out g
     pub differs : o .answer .number ≡ tag-differs → o ≡ record { answer = answer tag-differs 0 0; session = K .failed; out = replicate t 0 ++ drop t out; tag = g }
@@ -92,7 +92,7 @@ module _ {R : Type 0} (K : Records R) (i : Instance) (f : Bytes → Bytes) where
     pub unwrap-leaves : (x : R) (c : Message) (g out : Bytes)
         → UnwrapLeaves K (unwrapOf K i f x c g out) x (unwrap i f (K .shows x .state ∷ []) (K .shows x .at) c) (length (c .text)) out g
     pub start-leaves : (a : Opening) → StartLeaves K (openingOf K i f a) (a .choice) (start i f (startIn a)) (a .tag)
-    -- a wrong tag closes the session for good; so does a start that checks one. A session that was not started, or with a text start that there is not, is closed
+    -- a wrong tag closes the session for good, at an unwrap or at a start that checks it; closed too are a session never started, and one whose text start is neither 0 nor 16
     pub call-closes : (x : R) (c : Call) → callOf K i f x c .answer .number ≡ tag-differs → Closed (callOf K i f x c .session)
     pub start-closes : (a : Opening) → openingOf K i f a .answer .number ≡ tag-differs → Closed (begins K i f a)
     pub unstarted-closed : Closed (K .unstarted)
@@ -212,6 +212,8 @@ module _ {R : Type 0} (K : Records R) (i : Instance) (f : Bytes → Bytes) where
   pub record Story : Type 0 where
     -- equal lists, equal stories
     pub told : (a : Opening) (cs : List Call) (d : Opening) (ds : List Call) → Unrefused K i f a cs → Unrefused K i f d ds → fed a cs ≡ fed d ds → SameStory a cs d ds
+    -- the list is that of the definition's rides, the very ones that demand 2 names
+    pub blocks : (a : Opening) (cs : List Call) → Unrefused K i f a cs → fed a cs ≡ start i f (startIn a) .blocks ++ defined i f a cs .blocks
     -- the record's bytes are the permutation run over that very list, from all zeros
     pub state : (a : Opening) (cs : List Call) → Unrefused K i f a cs → K .shows (endOf K i f (begins K i f a) cs) .state ∷ [] ≡ run i f (fresh i) (fed a cs)
     -- and the list has as many blocks as the calls answered runs

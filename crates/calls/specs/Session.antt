@@ -4,7 +4,7 @@ use mathlib.Core.Bool.{Bool, _&&_, _||_}
 use Prim.Native.Nat.{ℕ}
 use lib.Dec.{eqb}
 use lib.ListN.{replicate}
-use Rattle.table.specs.Choices.{riding}
+use Rattle.table.specs.Choices.{isRiding}
 use Rattle.table.specs.declared.Phase.{Phase}
 use Rattle.table.specs.declared.Phase.the-variants.{Unstarted, Riding, Failed}
 use Rattle.motorist.specs.Instance.{Instance, stateLength, tagLength}
@@ -16,9 +16,9 @@ pub record View : Type 0 where
   pub state : Bytes
   pub at : ℕ
 
--- a session that may be used is under way, with a text start that there is
+-- a session that may be used is under way, its text start 0 or 16
 abbrev pub live : Phase → ℕ → Bool
-live phase at = riding phase && (eqb at 0 || eqb at tagLength)
+live phase at = isRiding phase && (eqb at 0 || eqb at tagLength)
 
 -- a kind of record: what each shows, and its three constructors
 pub record Records (R : Type 0) : Type 0 where

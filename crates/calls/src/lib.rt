@@ -1,4 +1,4 @@
-// What start, wrap and unwrap do, at any instance: definitions in specs/, laws and promises in proofs/.
+// What start, wrap and unwrap do, at any instance: definitions and promises in specs/, the proofs of the promises in proofs/.
 // In code here is what no instance changes: which refusal is given. Serves the instances; no public call.
 ghost use mathlib.Core.Path.{_≡_};
 ghost use Rattle.table.specs.Refusals.{first};

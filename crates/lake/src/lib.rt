@@ -59,7 +59,7 @@ fn riding(lanes: Lanes, at: usize) -> Session
     }
 }
 
-// A refusal: the answer is its number, nothing is written or counted, and the session is the one given here.
+// A refusal: the answer is its number, 0 written and 0 runs, and the session is the one given here.
 fn refused(number: u8, session: Session) -> Turn
     ensures { λ r. ⌜ r ≡ record { answer = answer number 0 0; session = session } ⌝ }
 {

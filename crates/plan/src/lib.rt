@@ -30,7 +30,7 @@ fn inject_start(rates: Rates, left: usize) -> usize
 }
 
 // The block after `text` bytes of t and `meta` bytes of m are done: it takes as much as fits.
-pub fn cut_at(rates: Rates, at: usize, text: usize, t: usize, meta: usize, m: usize) -> Cut
+fn cut_at(rates: Rates, at: usize, text: usize, t: usize, meta: usize, m: usize) -> Cut
     requires { ⌜ (at ≤ rates .text .0) × (rates .text .0 ≤ rates .full .0) × (text ≤ t) × (meta ≤ m) ⌝ }
     ensures { λ r. ⌜ r ≡ cutBy (rates .text .0) (rates .full .0) at text t meta m ⌝ }
 {
@@ -45,6 +45,22 @@ pub fn cut_at(rates: Rates, at: usize, text: usize, t: usize, meta: usize, m: us
         meta,
         metaend: meta + q,
     }
+}
+
+// The first block of a message of t bytes of text, which starts at byte `at` of it, and m of metadata.
+pub fn first_cut(rates: Rates, at: usize, t: usize, m: usize) -> Cut
+    requires { ⌜ (at ≤ rates .text .0) × (rates .text .0 ≤ rates .full .0) ⌝ }
+    ensures { λ r. ⌜ r ≡ cutBy (rates .text .0) (rates .full .0) at 0 t 0 m ⌝ }
+{
+    cut_at(rates, at, 0, t, 0, m)
+}
+
+// The block after this one.
+pub fn next_cut(rates: Rates, cut: Cut, t: usize, m: usize) -> Cut
+    requires { ⌜ (rates .text .0 ≤ rates .full .0) × (cut .textend ≤ t) × (cut .metaend ≤ m) ⌝ }
+    ensures { λ r. ⌜ r ≡ cutBy (rates .text .0) (rates .full .0) 0 (cut .textend) t (cut .metaend) m ⌝ }
+{
+    cut_at(rates, 0, cut.textend, t, cut.metaend, m)
 }
 
 // Whether a block after this one is left to do.

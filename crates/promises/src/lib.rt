@@ -1,1 +1,1 @@
-// The three demands at Lake and at River, from the definitions of `calls` and the contracts of the two instances: proofs/; no code.
+// The three demands at Lake and at River: those of `calls` at the two kinds of record: proofs/; no code.

@@ -8,6 +8,8 @@ use Rattle.table.proofs.Once.{Once}
 use Rattle.calls.specs.Outcome.{Outcome}
 use Rattle.river.specs.declared.Session.{Session}
 use Rattle.river.specs.declared.Turn.{Turn}
+use Rattle.river.proofs.unstarted.Kinds as unstarted
+use Rattle.river.proofs.unstarted.Reads as unstarted-contract
 use Rattle.river.proofs.start.Kinds as start
 use Rattle.river.proofs.start.Reads as start-contract
 use Rattle.river.proofs.wrap.Kinds as wrap
@@ -19,6 +21,11 @@ use Rattle.river.proofs.unwrap.Reads as unwrap-contract
 abbrev turned : Outcome Session → Turn
 turned o = record { answer = o .answer; session = o .session }
 
+pub unstarted-once : Once Session 0 unstarted.ps unstarted.r unstarted-contract.Learnt (λ κs a x. a)
+unstarted-once κs entry a b x y p q = p ∙ sym q
+
+-- at exit the lent parts stand in the order of the parameters: of start the tag buffer is the fifth, of wrap the output and the tag are the fifth and sixth,
+-- of unwrap the output is the sixth
 pub start-once : Once (Turn × List ℕ) 3 start.ps start.r start-contract.Learnt (λ κs a x. (a, now (x .1 .1 .1 .1 .0)))
 start-once κs entry a b x y p q = ap (λ (o : Outcome Session). (turned o, o .tag)) (p ∙ sym q)
 

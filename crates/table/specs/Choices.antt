@@ -11,10 +11,10 @@ phaseNumber Unstarted = 0
 phaseNumber Riding = 1
 phaseNumber Failed = 2
 
-abbrev pub riding : Phase → Bool
-riding Unstarted = false
-riding Riding = true
-riding Failed = false
+abbrev pub isRiding : Phase → Bool
+isRiding Unstarted = false
+isRiding Riding = true
+isRiding Failed = false
 
 -- a start tag is asked for whether it is to be produced or checked
 abbrev pub asked : StartTag → Bool

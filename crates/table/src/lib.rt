@@ -2,7 +2,7 @@
 // Every crate that refuses takes its numbers from here; the definitions take theirs from specs/Numbers.antt.
 ghost use mathlib.Core.Path.{_≡_};
 ghost use Rattle.table.specs.Refusals.{orElse};
-ghost use Rattle.table.specs.Choices.{phaseNumber, riding, asked};
+ghost use Rattle.table.specs.Choices.{phaseNumber, isRiding, asked};
 
 pub const DONE: u8 = 0;
 
@@ -79,7 +79,7 @@ pub fn phase_number(phase: Phase) -> u8
 
 // Whether the phase is that of a session under way.
 pub fn is_riding(phase: Phase) -> bool
-    ensures { λ r. ⌜ r ≡ riding phase ⌝ }
+    ensures { λ r. ⌜ r ≡ isRiding phase ⌝ }
 {
     match phase {
         Phase::Unstarted => false,

@@ -18,14 +18,14 @@ Inv-loop rates at text meta eom out₀ decrypt state₀ runs₀ cut₀ going₀ 
 abbrev μ-loop : tie.MeasureT-loop
 μ-loop rates at text meta eom out₀ decrypt state₀ runs₀ cut₀ going₀ out state runs cut going = ahead (length text) (length meta) going cut
 
-cut-at-requires : tie.Need-cut-at-requires Inv-loop μ-loop
-cut-at-requires c κs = let q = c .before .before .before .pre .0 in (omega (arith, q .0 .text, q .1), omega (arith, q .0 .text, q .0 .full, lake-sound .textFits), omega arith, omega arith)
+first-cut-requires : tie.Need-first-cut-requires Inv-loop μ-loop
+first-cut-requires c κs = let q = c .before .before .before .pre .0 in (omega (arith, q .0 .text, q .1), omega (arith, q .0 .text, q .0 .full, lake-sound .textFits))
 
 loop-holds : tie.Need-loop-holds Inv-loop μ-loop
 loop-holds c =
     let a = c .before .before .before .before .args in
     let q = c .before .before .before .before .pre .0 in
-    rw (c .cut-at .ensures, q .0 .text, q .0 .full)
+    rw (c .first-cut .ensures, q .0 .text, q .0 .full)
     (stage-none 1600 256 64 lake-sound 8 lakeF (a .decrypt) (stateOf (a .lanes)) (a .at) (a .text .now) (a .meta .now) (a .eom) (a .out .now) refl text-lane (q .3) (q .1) (q .2))
 
 more-requires : tie.Need-more-requires Inv-loop μ-loop
@@ -45,18 +45,18 @@ add-runs c =
     let p = c .before .before .before .before .before .before .before .before .before .before .before .before .pre .1 in
     omega (arith, w .few, w .room .text-order, w .room .in-text, w .room .meta-order, w .room .in-meta, p .0, p .1)
 
-cut-at-requires-2 : tie.Need-cut-at-requires-2 Inv-loop μ-loop
-cut-at-requires-2 c κs =
+next-cut-requires : tie.Need-next-cut-requires Inv-loop μ-loop
+next-cut-requires c κs =
     let w = c .before .before .before .before .before .before .before .loop .inv .going (c .before .before .before .before .before .before .loop-test .taken) in
     let q = c .before .before .before .before .before .before .before .before .before .before .before .before .pre .0 in
-    (omega arith, omega (arith, q .0 .text, q .0 .full, lake-sound .textFits), w .room .in-text, w .room .in-meta)
+    (omega (arith, q .0 .text, q .0 .full, lake-sound .textFits), w .room .in-text, w .room .in-meta)
 
 loop-less : tie.Need-loop-less Inv-loop μ-loop
 loop-less c =
     let w = c .before .before .before .before .before .before .before .before .loop .inv .going (c .before .before .before .before .before .before .before .loop-test .taken) in
     let q = c .before .before .before .before .before .before .before .before .before .before .before .before .before .pre .0 in
     let m = c .before .before .before .before .before .before .more in
-    rw (c .cut-at2 .ensures, q .0 .text, q .0 .full, c .before .before .before .before .before .before .before .loop-test .taken)
+    rw (c .next-cut .ensures, q .0 .text, q .0 .full, c .before .before .before .before .before .before .before .loop-test .taken)
     (fewer-ahead w _ refl refl text-lane (q .3) (m .result) (m .ensures))
 
 loop-again : tie.Need-loop-again Inv-loop μ-loop
@@ -65,7 +65,7 @@ loop-again c =
     let q = c .before .before .before .before .before .before .before .before .before .before .before .before .before .pre .0 in
     let m = c .before .before .before .before .before .before .more in
     let b = c .before .before .before .block in
-    rw (c .cut-at2 .ensures, q .0 .text, q .0 .full, b .ensures .1)
+    rw (c .next-cut .ensures, q .0 .text, q .0 .full, b .ensures .1)
     (stage-next w _ refl refl text-lane (q .3) (stateOf (b .result)) (m .result) (m .ensures) (rw (c .before .before .before .before .before .eom-at .ensures) at (b .ensures .0)))
 
 same-length : tie.Need-same-length Inv-loop μ-loop
@@ -83,13 +83,13 @@ group-spec =
     (tie.spec
     Inv-loop
     μ-loop
-    cut-at-requires
+    first-cut-requires
     loop-holds
     more-requires
     eom-at-requires
     block-requires
     add-runs
-    cut-at-requires-2
+    next-cut-requires
     loop-less
     loop-again
     same-length

@@ -43,4 +43,4 @@ module _ {b w k : ℕ} (ok : Sound (solo b w k)) (f : Bytes → Bytes) {R : Type
       }
 
   pub right : Right K one f
-  right = record { start = λ a. start-leaves K one f a .done; steps = right-at }
+  right = record { opening = λ a. start-leaves K one f a .done; steps = right-at }

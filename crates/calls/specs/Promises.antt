@@ -99,7 +99,7 @@ module _ {R : Type 0} (K : Records R) (i : Instance) (f : Bytes → Bytes) where
     pub elsewhere-closed : (x : R) → (K .shows x .at ≡ 0 → ⊥) → (K .shows x .at ≡ tagLength → ⊥) → Closed x
 
 -- ---- demand 2, first half: every step is the definition's
--- the steps y, and behind them the step x, whose ride is r
+-- the steps y, and after them the step x, whose ride is r
 abbrev pub andThen : Steps → Step → Ride → Steps
 andThen y x r =
     record {
@@ -111,7 +111,7 @@ andThen y x r =
     }
 
 module _ {R : Type 0} (K : Records R) (i : Instance) (f : Bytes → Bytes) where
-  -- the definition's ride of the call c behind the calls of front
+  -- the definition's ride of the call c, after the calls of front
   abbrev pub rideAt : Opening → List Call → Call → Ride
   rideAt a front c = message i f (c .decrypt) (defined i f a front .states) (textStart (taken (asked (a .choice))) front) (c .message)
 
@@ -123,9 +123,10 @@ module _ {R : Type 0} (K : Records R) (i : Instance) (f : Bytes → Bytes) where
     pub outcome : callOf K i f (endOf K i f (begins K i f a) front) c ≡ wrapped K (rideAt a front c) (textLength c) (c .out)
 
   pub record Right : Type 0 where
-    pub start : (a : Opening) → openingOf K i f a .answer .number ≡ done
+    -- the start, where it is not refused
+    pub opening : (a : Opening) → openingOf K i f a .answer .number ≡ done
         → openingOf K i f a ≡ begun K (start i f (startIn a)) (taken (asked (a .choice))) (held (asked (a .choice)) (start i f (startIn a)) (a .tag))
-    -- in every chain of which none is refused, at the call c behind any front of it
+    -- in every chain of which none is refused, at the call c after any front of it
     pub steps : (a : Opening) (front : List Call) (c : Call) (back : List Call) → Unrefused K i f a (front ++ (c ∷ back)) → RightAt a front c
 
 -- ---- demand 2, the partner: another side that starts alike and unwraps every message of the first side

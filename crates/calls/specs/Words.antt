@@ -49,7 +49,7 @@ stepOf c = step (c .decrypt) (c .message)
 abbrev pub defined : (i : Instance) (f : Bytes → Bytes) → Opening → List Call → Steps
 defined i f a cs = steps i f (start i f (startIn a) .states) (taken (asked (a .choice))) (map stepOf cs)
 
--- where the text behind the calls starts, the first one's starting from `at` on
+-- where the text after the calls starts, the first one's starting from `at` on
 abbrev pub textStart : ℕ → List Call → ℕ
 textStart at [] = at
 textStart at (c ∷ cs) = tagLength

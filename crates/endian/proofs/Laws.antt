@@ -11,7 +11,8 @@ use lib.ListN.{length, getD, set, drop, drop-of-length-le}
 use native.Mathlib.Numerals.{add-one}
 use Rattle.slices.proofs.Parts.{grow-one}
 use Rattle.endian.specs.Little.{fromBytes, toBytes}
-use Rattle.endian.proofs.Small.{Small, small-nil, small-cons}
+use Rattle.endian.specs.Small.{Small}
+use Rattle.endian.proofs.Small.{small-nil, small-cons}
 
 pub toBytes-length : (n x : ℕ) → length (toBytes n x) ≡ n
 unfolding toBytes

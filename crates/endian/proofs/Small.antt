@@ -1,13 +1,11 @@
--- Strings of bytes: lists whose every element is below 256, and what stays one. The code's slices of u8 are such lists.
+-- What stays a string of bytes: parts, strings one after the other, zeros.
 use mathlib.Core.List.{List, [], _∷_, _++_}
 use Prim.Native.Nat.{ℕ, zero, suc, _+_, _^_, _<_}
 use native.Mathlib.Omega.{arith}
-use lib.ListN.{getD, take, drop, replicate}
+use lib.ListN.{take, drop, replicate}
 use lib.Seq.{getD-drop}
 use Rattle.slices.proofs.Parts.{every-take}
-
-abbrev pub Small : List ℕ → Type 0
-Small s = (i : ℕ) → getD s i 0 < 2 ^ 8
+use Rattle.endian.specs.Small.{Small}
 
 pub small-nil : Small []
 small-nil i = omega arith

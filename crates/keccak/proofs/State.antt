@@ -9,7 +9,8 @@ use lib.Seq.{getD-append-add, take-at, drop-at, length-take-le}
 use lib.Pow.{pow-add, pow-pos, pow-mono, shr-shr}
 use Rattle.endian.specs.Little.{fromBytes, toBytes}
 use Rattle.endian.proofs.Laws.{toBytes-length, toBytes-small, fromBytes-lt, to-from, from-to}
-use Rattle.endian.proofs.Small.{Small, small-nil, small-append, small-take, small-drop}
+use Rattle.endian.specs.Small.{Small}
+use Rattle.endian.proofs.Small.{small-nil, small-append, small-take, small-drop}
 use Rattle.keccak.specs.Keccak.{keccakP}
 use Rattle.keccak.specs.Bits.{bit}
 use Rattle.keccak.specs.Lanes.{from, bits, lanesOf, roundsL}

@@ -7,10 +7,11 @@ use native.Mathlib.Omega.{arith}
 use native.Mathlib.Nat.{add-zero}
 use lib.ListN.{length, getD, replicate, length-append, length-replicate, List·getD-append, List·getD-eq-default}
 use lib.Seq.{slice, getD-append-add, take-at, drop-at, drop-nil}
-use Rattle.endian.proofs.Small.{Small, small-append}
+use Rattle.endian.specs.Small.{Small}
+use Rattle.endian.proofs.Small.{small-append}
 use Rattle.motorist.specs.Instance.{Instance, Sound, stateLength, fullRate}
 use Rattle.motorist.specs.Piston.{Bytes, pad, cryptEnd, laid, block, eomOf, cryptEndOf, injectStartOf, injectEndOf, textOf, metaOf}
-use Rattle.motorist.proofs.Plans.{Fit}
+use Rattle.motorist.specs.Shape.{Fit}
 use Rattle.motorist.proofs.KeyPack.{length-pad}
 use Rattle.motorist.proofs.Small.{small-four, small-pad, small-laid}
 

@@ -1,21 +1,12 @@
 -- The counts of bytes that follow from an instance's parameters: 01's table and the rule behind it; and that the five instances are sound.
-use Prim.Native.Nat.{ℕ, _+_, _-_, _*_, _/_, _≤_, _<_, max}
+use Rattle.motorist.specs.Counts.{Counts, Largest}
+use Prim.Native.Nat.{ℕ, _-_, _*_, _/_, _≤_, _<_, max}
 use mathlib.Core.Path.{_≡_, refl, _∙_}
 use native.Mathlib.Omega.{arith}
 use native.Mathlib.Nat.{div-mul-le-self, le-div-iff-mul-le, mul-le-mul-left, mul-comm, mul-assoc, mul-div-cancel-left}
-use Rattle.motorist.specs.Instance.{Instance, Sound, stateLength, textRate, fullRate, chainLength, packLength, tagLength, lake, river, sea, ocean, lunar}
+use Rattle.motorist.specs.Instance.{Instance, Sound, stateLength, textRate, fullRate, chainLength, packLength, lake, river, sea, ocean, lunar}
 
--- ---- 01's table: width and lane in bits; text rate, full rate, key pack, chaining value, tag and state in bytes
-pub record Counts (i : Instance) (width lane text full pack chain tag state : ℕ) : Type 0 where
-  pub width-is : i .width ≡ width
-  pub lane-is : i .lane ≡ lane
-  pub text-is : textRate i ≡ text
-  pub full-is : fullRate i ≡ full
-  pub pack-is : packLength i ≡ pack
-  pub chain-is : chainLength i ≡ chain
-  pub tag-is : tagLength ≡ tag
-  pub state-is : stateLength i ≡ state
-
+-- ---- 01's table
 pub lake-counts : Counts lake 1600 64 168 192 40 32 16 200
 unfolding stateLength textRate fullRate chainLength packLength
 lake-counts = omega arith
@@ -24,13 +15,7 @@ pub river-counts : Counts river 800 32 68 96 36 32 16 100
 unfolding stateLength textRate fullRate chainLength packLength
 river-counts = omega arith
 
--- ---- the rule: n bytes are the largest multiple of a lane of w bytes that leaves k bits of b
-pub record Largest (b w k n : ℕ) : Type 0 where
-  pub lanes : ℕ
-  pub multiple : n ≡ w * lanes
-  pub leaves : 8 * n + k ≤ b
-  pub largest : (m : ℕ) → 8 * (w * m) + k ≤ b → w * m ≤ n
-
+-- ---- the rule
 swap : (m w : ℕ) → m * (8 * w) ≡ 8 * (w * m)
 swap m w = mul-comm m (8 * w) ∙ mul-assoc 8 w m
 

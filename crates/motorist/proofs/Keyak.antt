@@ -8,8 +8,8 @@ use Rattle.motorist.specs.Motorist.{Start, Message}
 use Rattle.motorist.specs.Session.{sessionBlocks}
 use Rattle.motorist.specs.Keyak.{lakeF, riverF}
 use Rattle.motorist.proofs.Instances.{lake-sound, river-sound, lake-counts, river-counts}
-use Rattle.motorist.proofs.Small.{Each}
-use Rattle.motorist.proofs.Shape.{State, SmallStart, SmallMessage, ShapedRound, session-shaped}
+use Rattle.motorist.specs.Shape.{Each, State, SmallStart, SmallMessage, ShapedRound}
+use Rattle.motorist.proofs.Shape.{session-shaped}
 
 pub lake-gives : (s : Bytes) → State lake (lakeF s)
 lake-gives s = record { long = keccakBytes-length 6 12 s ∙ sym (lake-counts .state-is); small = keccakBytes-small 6 12 s }

@@ -8,7 +8,8 @@ use lib.ListN.{length, take, drop, length-drop}
 use Rattle.motorist.specs.Instance.{Instance, Sound, textRate, fullRate}
 use Rattle.motorist.specs.Piston.{Bytes, block, plain, offsetsOf, offsetsFor}
 use Rattle.motorist.specs.Engine.{States, first, Round, textAfter, metaAfter, goesOn, injectStart, textFit, metaFit, deal, round, plan, fill, absorbs, ride, group}
-use Rattle.motorist.proofs.Plans.{Fit, Behind, behind, behind-less, inject-le, deal-fit, text-after-length, meta-after-length, Planned, last, more, planned}
+use Rattle.motorist.specs.Shape.{Fit}
+use Rattle.motorist.proofs.Plans.{Behind, behind, behind-less, inject-le, deal-fit, text-after-length, meta-after-length, Planned, last, more, planned}
 use Rattle.motorist.proofs.Blocks.{eom-back, crypt-end-back, inject-start-back, inject-end-back}
 
 module _ (i : Instance) (ok : Sound i) where

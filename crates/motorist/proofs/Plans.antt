@@ -1,5 +1,6 @@
 -- The laws of rounds and plans: what a round takes fits its blocks, what it leaves is less, and a plan is its first round and the plan of what that leaves.
 -- `Planned` and `Injected` are what the other laws go by, so that the bounds on recursion in the definitions are met here alone.
+use Rattle.motorist.specs.Shape.{Fit}
 use Prim.Native.Nat.{ℕ, zero, suc, _+_, _-_, _≤_, _<_, min}
 use mathlib.Core.Path.{_≡_, refl, ap, _∙_}
 use mathlib.Core.Bool.{Bool, true, false}
@@ -56,12 +57,6 @@ meta-after-length (p ∷ ps) m = meta-after-length ps (drop (p .meta) m) ∙ rw 
 crypt-le : (at x r : ℕ) → at + x ≤ r → cryptEnd at x ≤ r
 crypt-le at zero r h = omega arith
 crypt-le at (suc x) r h = h
-
--- t bytes of text from `at` on and m of metadata from `from` on have room in a block: the text up to the text rate, the metadata behind it and up to the full rate
-pub record Fit (i : Instance) (at t from m : ℕ) : Type 0 where
-  pub textRoom : at + t ≤ textRate i
-  pub textFits : cryptEnd at t ≤ from
-  pub metaFits : from + m ≤ fullRate i
 
 -- x from `at` on and y from `from` on are what a block is dealt: a bytes and b, which have room in it
 pub record Dealt (i : Instance) (at a from b : ℕ) (x y : Bytes) : Type 0 where

@@ -11,7 +11,8 @@ use Rattle.motorist.specs.Piston.{Bytes, eom, eomOf}
 use Rattle.motorist.specs.Engine.{States, Blocks, first, Round, textAfter, metaAfter, goesOn, injectStart, textFit, metaFit, deal, round, Ride, fill, absorbs, ride, group, each, injectCollective}
 use Rattle.motorist.specs.Motorist.{taken, ends, knot}
 use Rattle.motorist.specs.Reader.{End, continues, ties, closes, Group, Mode, starting, inside, knotting, turn, endOf, textsOf, metasOf, step, read}
-use Rattle.motorist.proofs.Plans.{eom-chain, alone-fits, Fit, Behind, behind, behind-less, inject-le, deal-fit, round-left, text-after-length, meta-after-length, Planned, last, more, planned, Injected, final, further, injected}
+use Rattle.motorist.specs.Shape.{Fit}
+use Rattle.motorist.proofs.Plans.{eom-chain, alone-fits, Behind, behind, behind-less, inject-le, deal-fit, round-left, text-after-length, meta-after-length, Planned, last, more, planned, Injected, final, further, injected}
 use Rattle.motorist.proofs.Blocks.{eom-back, meta-back, text-back}
 
 -- nothing is left behind it, so it is all

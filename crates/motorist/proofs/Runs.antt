@@ -1,4 +1,5 @@
 -- How many rounds a group has; and at one Piston, how many permutation runs a message and a start take, over the instance and the place where the text starts.
+use Rattle.motorist.specs.Runs.{textRounds, metaRounds, rounds, runs, knotRuns, u, v}
 use Prim.Native.Nat.{ℕ, zero, suc, _+_, _-_, _*_, _/_, _≤_, _<_, min, max}
 use mathlib.Core.Path.{_≡_, sym, ap, _∙_}
 use mathlib.Core.Bool.{Bool, true, false}
@@ -34,19 +35,6 @@ up-one : (n d : ℕ) → 0 < n → n ≤ d → roundUp n d ≡ 1
 up-one n d hn hd = let e : n - d ≡ 0 = omega arith in up-more n d hn (omega arith) ∙ rw (e, up-zero d (omega arith))
 
 -- ---- the formula
--- the rounds with text, of t bytes from `at` on, where a round takes d
-abbrev pub textRounds : ℕ → ℕ → ℕ → ℕ
-textRounds d at zero = 0
-textRounds d at (suc t) = roundUp (suc t + at) d
-
--- the rounds of metadata alone, of m bytes, where such a round takes e, and each of u rounds with text took g
-abbrev pub metaRounds : ℕ → ℕ → ℕ → ℕ → ℕ
-metaRounds e g u m = roundUp (m - g * u) e
-
--- all rounds of a group
-unfoldable pub rounds : ℕ → ℕ → ℕ → ℕ → ℕ → ℕ → ℕ
-rounds d e g at t m = max 1 (textRounds d at t + metaRounds e g (textRounds d at t) m)
-
 -- what one round takes of the metadata, with t bytes of text to deal
 abbrev takes : ℕ → ℕ → ℕ → ℕ
 takes e g zero = e
@@ -143,15 +131,6 @@ module _ (i : Instance) where
     group-rounds f decrypt ss at t m h = ride-blocks i f decrypt (plan i at (length t) (length m) (e ∷ es)) ss t m ∙ plan-rounds (planned i ok e es at (length t) (length m) h)
 
 -- ---- one Piston
--- the runs of a message of t bytes of text from `at` on and m of metadata, before a knot if it has one
-abbrev pub runs : Instance → ℕ → ℕ → ℕ → ℕ
-runs i at t m = rounds (textRate i) (fullRate i) (fullRate i - textRate i) at t m
-
--- forgetting takes one run more
-abbrev pub knotRuns : Bool → ℕ
-knotRuns true = 1
-knotRuns false = 0
-
 module _ (b w c : ℕ) (f : Bytes → Bytes) (ok : Sound (solo b w c)) where
   abbrev one : Instance
   one = solo b w c
@@ -179,14 +158,7 @@ module _ (b w c : ℕ) (f : Bytes → Bytes) (ok : Sound (solo b w c)) where
       rw (start-one b w c f ok a)
       (knot-runs (a .forgets) _ (eom (taken (a .tagged))) _ (λ e. group-runs false (replicate (stateLength one) 0) 0 [] m e (omega (arith, ok .tagFits)) ∙ r))
 
--- 01: after a tag and without forgetting, a message of p text and a metadata bytes in Lake takes max(1, u+v) runs:
--- u is 0 for p = 0, else (p+16)/168 rounded up; v is max(0, a-24u)/192 rounded up
-abbrev pub u : ℕ → ℕ
-u p = textRounds 168 16 p
-
-abbrev pub v : ℕ → ℕ → ℕ
-v p a = metaRounds 192 24 (u p) a
-
+-- 01's sentence, at Lake after a tag
 pub lake-runs : (f : Bytes → Bytes) (decrypt : Bool) (s text meta : Bytes)
     → length (message lake f decrypt (s ∷ []) 16 (record { text = text; meta = meta; forgets = false }) .blocks)
     ≡ max 1 (u (length text) + v (length text) (length meta))

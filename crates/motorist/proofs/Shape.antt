@@ -3,7 +3,7 @@
 use Prim.Native.Nat.{ℕ, zero, suc, _+_, _-_, _^_, _≤_, _<_, min}
 use mathlib.Core.Path.{_≡_, refl, sym, ap, _∙_}
 use mathlib.Core.Bool.{Bool, true, false}
-use mathlib.Core.Logic.{_⊎_, inl, inr}
+use mathlib.Core.Logic.{inl, inr}
 use mathlib.Core.List.{List, [], _∷_, _++_, map}
 use native.Mathlib.Omega.{arith}
 use native.Mathlib.Nat.{min-zero, add-suc}
@@ -13,55 +13,19 @@ use Rattle.motorist.specs.Piston.{Bytes, cryptEnd, eom, block, xors, pla
 use Rattle.motorist.specs.Engine.{States, Blocks, first, Round, textAfter, metaAfter, goesOn, injectStart, textFit, metaFit, deal, round, Ride, fill, absorbs, run, ride, group, each}
 use Rattle.motorist.specs.Motorist.{Start, Message, taken, ends, chains, chain, fresh, keyPack, suv, diversify, knots, inject, knot, start, message}
 use Rattle.motorist.specs.Session.{Step, step, steps, sessionBlocks}
-use Rattle.motorist.proofs.Plans.{eom-chain, alone-fits, taken-fits, goes-on-length, text-after-length, meta-after-length, Fit, Behind, behind, behind-less, inject-le, deal-fit, Planned, last, more, planned, Injected, final, further, injected}
+use Rattle.motorist.specs.Shape.{Fit, Each, State, Keeps, Eom, Shaped, ShapedRound, SmallStart, SmallMessage}
+use Rattle.motorist.proofs.Plans.{eom-chain, alone-fits, taken-fits, goes-on-length, text-after-length, meta-after-length, Behind, behind, behind-less, inject-le, deal-fit, Planned, last, more, planned, Injected, final, further, injected}
 use Rattle.motorist.proofs.Blocks.{block-length, block-small, crypt-end-back}
 use Rattle.motorist.proofs.Xors.{length-xors}
-use Rattle.endian.proofs.Small.{Small, small-nil, small-cons, small-append, small-zeros, small-take, small-drop}
-use Rattle.motorist.proofs.Small.{Each, each-append, each-replicate, small-pad, small-xors, small-plain}
-
--- ---- states, and a permutation that keeps them
-pub record State (i : Instance) (s : Bytes) : Type 0 where
-  pub long : length s ≡ stateLength i
-  pub small : Small s
-
-abbrev pub Keeps : Instance → (Bytes → Bytes) → Type 0
-Keeps i f = (s : Bytes) → State i s → State i (f s)
-
--- ---- blocks
--- 0 inside a group; at its end the length of a chaining value, of a tag, or 255
-abbrev pub Eom : Instance → ℕ → Type 0
-Eom i e = (e ≡ 0) ⊎ ((e ≡ chainLength i) ⊎ ((e ≡ tagLength) ⊎ (e ≡ 255)))
-
--- b is the block of some text and some metadata that starts at `from`. What stands at each place of such a block is said in Blocks
-pub record Shaped (i : Instance) (from : ℕ) (b : Bytes) : Type 0 where
-  pub at : ℕ
-  pub text : Bytes
-  pub meta : Bytes
-  pub eom : ℕ
-  pub is : b ≡ block i at text from meta eom
-  pub fit : Fit i at (length text) from (length meta)
-  pub end : Eom i eom
-  pub long : length b ≡ stateLength i
-  pub small : Small b
-
--- the blocks of a round: all metadata starts at the text rate if the first block has text, that is, if its Crypt End is not 0; else at 0
-abbrev pub ShapedRound : Instance → Blocks → Type 0
-ShapedRound i bs = Each (Shaped i (injectStart i (cryptEndOf i (first bs)))) bs
+use Rattle.endian.specs.Small.{Small}
+use Rattle.endian.proofs.Small.{small-nil, small-cons, small-append, small-zeros, small-take, small-drop}
+use Rattle.motorist.proofs.Small.{each-append, each-replicate, small-pad, small-xors, small-plain}
 
 -- n states, and blocks that are all shaped
 pub record Well (i : Instance) (n : ℕ) (bs : List Blocks) (ss : States) : Type 0 where
   pub blocks : Each (ShapedRound i) bs
   pub states : Each (State i) ss
   pub many : length ss ≡ n
-
--- ---- inputs of bytes
-pub record SmallStart (a : Start) : Type 0 where
-  pub key : Small (a .key)
-  pub nonce : Small (a .nonce)
-
-pub record SmallMessage (g : Message) : Type 0 where
-  pub text : Small (g .text)
-  pub meta : Small (g .meta)
 
 small-text-after : (r : Round) (t : Bytes) → Small t → Small (textAfter r t)
 small-text-after [] t h = h

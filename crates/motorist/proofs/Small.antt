@@ -1,18 +1,16 @@
 -- Strings of bytes: every element is below 256, and stays so in what the definitions make of them.
+use Rattle.motorist.specs.Shape.{Each}
 use Prim.Native.Nat.{ℕ, zero, suc, _+_, _-_, _^_, _<_}
 use mathlib.Core.Bool.{Bool, true, false}
 use mathlib.Core.List.{List, [], _∷_, _++_}
 use native.Mathlib.Omega.{arith}
 use lib.Bits.{xor-lt}
 use lib.ListN.{length, drop, replicate}
-use Rattle.endian.proofs.Small.{Small, small-nil, small-cons, small-append, small-zeros, small-drop}
+use Rattle.endian.specs.Small.{Small}
+use Rattle.endian.proofs.Small.{small-nil, small-cons, small-append, small-zeros, small-drop}
 use Rattle.motorist.specs.Piston.{Bytes, pad, laid, xors, mask, plain}
 
 -- all elements of a list
-abbrev pub Each {ℓ} : {A : Type ℓ} → (A → Type 0) → List A → Type 0
-Each P [] = Unit {0}
-Each P (x ∷ xs) = P x × Each P xs
-
 pub each-append {ℓ} : {A : Type ℓ} (P : A → Type 0) (xs ys : List A) → Each P xs → Each P ys → Each P (xs ++ ys)
 each-append P [] ys hx hy = hy
 each-append P (x ∷ xs) ys hx hy = (hx .0, each-append P xs ys (hx .1) hy)

@@ -11,7 +11,8 @@ use lib.Seq.{drop-drop, drop-at, take-add, length-take-le}
 use Rattle.endian.specs.Little.{fromBytes, toBytes}
 use Rattle.endian.proofs.Laws.{toBytes-length}
 use Rattle.keccak.specs.State.{bytes}
-use Rattle.endian.proofs.Small.{Small, small-part}
+use Rattle.endian.specs.Small.{Small}
+use Rattle.endian.proofs.Small.{small-part}
 use Rattle.motorist.specs.Piston.{Bytes, xors, mask}
 use Rattle.piston.specs.Placed.{placed}
 use Rattle.piston.proofs.Xors.{xors-end, xors-front, xors-skip, xors-behind, mask-append}

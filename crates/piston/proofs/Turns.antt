@@ -9,7 +9,7 @@ use lib.ListN.{length, getD, set, take, drop, replicate, length-append, length-r
 use lib.Seq.{take-all, length-take-le}
 use Rattle.endian.specs.Little.{fromBytes, toBytes}
 use Rattle.keccak.specs.State.{bytes}
-use Rattle.endian.proofs.Small.{Small}
+use Rattle.endian.specs.Small.{Small}
 use Rattle.motorist.specs.Piston.{Bytes, xors, mask}
 use Rattle.motorist.proofs.Xors.{length-mask}
 use Rattle.slices.proofs.Parts.{grow}

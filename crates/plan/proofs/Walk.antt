@@ -16,7 +16,8 @@ use Rattle.slices.proofs.Parts.{take-back, drop-back, length-back}
 use Rattle.motorist.specs.Instance.{Instance, Sound, solo, textRate, fullRate}
 use Rattle.motorist.specs.Piston.{Bytes, mask, plain, block}
 use Rattle.motorist.specs.Engine.{Ride, group, injectStart, textFit, metaFit}
-use Rattle.motorist.proofs.Plans.{Fit, deal-fits, inject-le, behind}
+use Rattle.motorist.specs.Shape.{Fit}
+use Rattle.motorist.proofs.Plans.{deal-fits, inject-le, behind}
 use Rattle.motorist.proofs.OnePiston.{group-last, group-more}
 use Rattle.motorist.proofs.Xors.{length-xors}
 use Rattle.plan.specs.Cut.{fromBy, cutBy, Fits, stepped, eomAt}

@@ -7,7 +7,7 @@ use Rattle.motorist.specs.Instance.{lake}
 use Rattle.motorist.specs.Keyak.{lakeF}
 use Rattle.motorist.proofs.Instances.{lake-sound, lake-counts}
 use Rattle.motorist.proofs.Keyak.{lake-gives}
-use Rattle.motorist.proofs.Shape.{State}
+use Rattle.motorist.specs.Shape.{State}
 use Rattle.calls.specs.Session.{View, Serves}
 use Rattle.calls.specs.Promises.{Total, Right, Partner, Story}
 use Rattle.calls.proofs.Closed.{total}

@@ -7,7 +7,7 @@ use Rattle.motorist.specs.Instance.{river}
 use Rattle.motorist.specs.Keyak.{riverF}
 use Rattle.motorist.proofs.Instances.{river-sound, river-counts}
 use Rattle.motorist.proofs.Keyak.{river-gives}
-use Rattle.motorist.proofs.Shape.{State}
+use Rattle.motorist.specs.Shape.{State}
 use Rattle.calls.specs.Session.{View, Serves}
 use Rattle.calls.specs.Promises.{Total, Right, Partner, Story}
 use Rattle.calls.proofs.Closed.{total}

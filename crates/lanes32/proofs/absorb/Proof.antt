@@ -4,7 +4,7 @@ use Prim.Native.Nat.{_*_, _/_}
 use native.Mathlib.Omega.{arith}
 use lib.ListN.{length, length-set}
 use Rattle.keccak.specs.State.{bytes}
-use Rattle.endian.proofs.Small.{Small}
+use Rattle.endian.specs.Small.{Small}
 use Rattle.piston.proofs.Turns.{absorb-whole, absorb-rest}
 use borrow.Author.Needs.{needs}
 use Rattle.lanes32.proofs.absorb.Statement.{statement}

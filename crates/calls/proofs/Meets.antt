@@ -20,7 +20,8 @@ use Rattle.table.proofs.Exact.{exact, not-done}
 use Rattle.slices.specs.Same.{sameBytes}
 use Rattle.motorist.specs.Instance.{Instance, Sound, tagLength}
 use Rattle.motorist.specs.Piston.{Bytes}
-use Rattle.motorist.specs.Engine.{Ride, Rode}
+use Rattle.motorist.specs.Engine.{Ride}
+use Rattle.motorist.specs.Rode.{Rode}
 use Rattle.motorist.specs.Motorist.{Message, start, message}
 use Rattle.calls.specs.Session.{View, Records}
 use Rattle.calls.proofs.Allowed.{Allowed, AllowedStart, allowed, allowed-start, live-fits}

@@ -7,7 +7,8 @@ use native.Mathlib.Omega.{arith}
 use lib.ListN.{length, drop, length-append, length-take, length-drop}
 use Rattle.motorist.specs.Instance.{Instance, Sound, textRate}
 use Rattle.motorist.specs.Piston.{Bytes}
-use Rattle.motorist.specs.Engine.{States, Blocks, Round, textLeft, textAfter, metaAfter, goesOn, injectStart, textFit, metaFit, deal, round, plan, Ride, crypt, fill, absorbs, run, ride, group, Rode}
+use Rattle.motorist.specs.Engine.{States, Blocks, Round, textLeft, textAfter, metaAfter, goesOn, injectStart, textFit, metaFit, deal, round, plan, Ride, crypt, fill, absorbs, run, ride, group}
+use Rattle.motorist.specs.Rode.{Rode}
 use Rattle.motorist.specs.Motorist.{Start, Message, knots, ends, chains, fresh, knot, start, message}
 use Rattle.motorist.proofs.Xors.{length-xors}
 use Rattle.motorist.proofs.Plans.{Planned, last, more, planned, round-left, text-after-length}

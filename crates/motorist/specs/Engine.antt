@@ -1,6 +1,5 @@
 -- The Engine (003, 1.5): text and metadata dealt to the Pistons in turn, round by round; and metadata injected into all of them, collectively.
 use Prim.Native.Nat.{ℕ, zero, suc, _+_, _-_, min}
-use mathlib.Core.Path.{_≡_}
 use mathlib.Core.Bool.{Bool, true, false}
 use mathlib.Core.List.{List, [], _∷_, _++_, map}
 use lib.ListN.{length, getD, take, drop}
@@ -148,9 +147,3 @@ module _ (i : Instance) where
     -- a group: all of the text t, from `at` on, and of the metadata m; its last round has the EOMs es
     abbrev pub group : Bool → States → ℕ → Bytes → Bytes → List ℕ → Ride
     group decrypt ss at t m es = ride decrypt (plan i at (length t) (length m) es) ss t m
-
--- what code that rides with one Piston has to show of a ride of t bytes of text: the state s, the runs n, and the output o, which was lent holding d
-pub record Rode (r : Ride) (t : ℕ) (d s o : Bytes) (n : ℕ) : Type 0 where
-  pub states : s ∷ [] ≡ r .states
-  pub output : o ≡ r .output ++ drop t d
-  pub runs : n ≡ length (r .blocks)

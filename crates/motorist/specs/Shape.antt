@@ -34,7 +34,7 @@ pub record Fit (i : Instance) (at t from m : ℕ) : Type 0 where
 abbrev pub Eom : Instance → ℕ → Type 0
 Eom i e = (e ≡ 0) ⊎ ((e ≡ chainLength i) ⊎ ((e ≡ tagLength) ⊎ (e ≡ 255)))
 
--- b is the block of some text and some metadata that starts at `from`. What stands at each place of such a block is said in Blocks
+-- b is the block of some text and some metadata that starts at `from`. What stands at each place of such a block is said in proofs/Blocks.antt
 pub record Shaped (i : Instance) (from : ℕ) (b : Bytes) : Type 0 where
   pub at : ℕ
   pub text : Bytes

@@ -3,20 +3,20 @@
     python3 sessions.py FOLDER           write the files
     python3 sessions.py --check FOLDER   make them again and compare; 1 if one differs
 
-Five files, in the layout of docs/VECTORS.md: sessions.txt with all sessions;
-sample.txt, a few with every byte in full, as vectors from elsewhere would stand;
-wrong.txt, the same with one wrong byte; late.txt, two long wraps whose last
-ciphertext byte is wrong; and unsound.txt, a start and the ways in which its line
-can leave the layout. The same bytes come out each time: all choices follow from
-SEED by the small generator below.
+Seven files, in the layout of docs/VECTORS.md: sessions.txt with the families below,
+random.txt with the random sessions of randoms.py, sample.txt, a few with every byte
+in full, as vectors from elsewhere would stand; and what must be reported, made in
+wrongs.py. The same bytes come out each time: all choices follow from SEED.
 """
 
 import os
 import sys
-from typing import NamedTuple
 
 import keyak
+import randoms
 import table
+import wrongs
+from book import (Book, Dice, Scribe, flipped, pattern, right_start_tag, right_tag, whole)
 from table import CHECKED, NO_TAG, PRODUCED
 
 SEED = 20250718
@@ -30,249 +30,6 @@ HEAD = """\
 # line has {longest} characters.
 #
 """
-
-# Where the last word of OUTPUTAFTER and of TAGAFTER stands in a wrap: before them are its
-# name, two runs of bytes, FORGET, two more and the three numbers of the answer.
-OUTPUT_HEX = 1 + 5 + 5 + 1 + 5 + 5 + 3 + 5 - 1
-TAG_HEX = OUTPUT_HEX + 5
-
-
-# ---------------------------------------------------------------------------
-# Bytes and how the file tells them (docs/VECTORS.md).
-# ---------------------------------------------------------------------------
-
-
-class Given(NamedTuple):
-    """Bytes, and the words that stand for them."""
-    words: str
-    content: bytes
-
-
-def expand(length, a, b):
-    if a == 0:
-        return bytes([b]) * length
-    return bytes((a * i + b + 29 * (i // 256)) % 256 for i in range(length))
-
-
-def xor_at(content, place, mask):
-    changed = bytearray(content)
-    changed[place] ^= mask
-    return bytes(changed)
-
-
-def pattern(length, a, b):
-    return Given(f"{length} {a} {b} 0 -", expand(length, a, b))
-
-
-def hexed(content):
-    return content.hex() or "-"
-
-
-def whole(content):
-    return Given(f"{len(content)} 0 0 0 {hexed(content)}", bytes(content))
-
-
-def flipped(given, place, mask):
-    """The same bytes with byte place xored with mask."""
-    content = xor_at(given.content, place, mask)
-    length, a, b, _, shown = given.words.split()
-    if shown != "-":
-        return whole(content)
-    return Given(f"{length} {a} {b} {place} {content[place]:02x}", content)
-
-
-def seen(content, lent=None):
-    """The words of what a call leaves: as it was lent, or zeros and then the bytes after them."""
-    content = bytes(content)
-    if lent is not None and content == lent.content:
-        return lent.words
-    rest = content.lstrip(b"\0")
-    place = len(content) - len(rest) if rest else 0
-    return f"{len(content)} 0 0 {place} {hexed(rest)}"
-
-
-def record_words(instance, record):
-    lanes = keyak.lanes_to_bytes(record.lanes, instance.W // 8)
-    return f"{seen(lanes)} {record.phase} {record.text_start}"
-
-
-# ---------------------------------------------------------------------------
-# Choices.
-# ---------------------------------------------------------------------------
-
-
-class Dice:
-    """A linear congruential generator of 64 bits; the upper half is used."""
-
-    def __init__(self, seed):
-        self.x = seed
-
-    def below(self, n):
-        self.x = (self.x * 6364136223846793005 + 1442695040888963407) % 2 ** 64
-        return (self.x >> 32) * n >> 32
-
-    def pick(self, choices):
-        return choices[self.below(len(choices))]
-
-    def shuffled(self, items):
-        items = list(items)
-        for i in range(len(items) - 1, 0, -1):
-            j = self.below(i + 1)
-            items[i], items[j] = items[j], items[i]
-        return items
-
-    def bytes(self, length):
-        """Bytes by the file's rule, with random A and B."""
-        return pattern(length, 1 + self.below(255), self.below(256))
-
-
-# ---------------------------------------------------------------------------
-# A session as it is called and written down.
-# ---------------------------------------------------------------------------
-
-
-def right_start_tag(instance, key, nonce, forget):
-    tag = bytearray(16)
-    table.start(instance, key.content, nonce.content, PRODUCED, tag, forget)
-    return whole(tag)
-
-
-def right_tag(instance, record, text, metadata, forget):
-    """The tag that unwrapping this ciphertext asks for.
-
-    After the last run the first 16 bytes of Piston 0's state are the tag.
-    """
-    motorist = table.motorist_of(instance, record)
-    motorist.wrap(keyak.ByteStream(text.content), keyak.ByteStream(),
-                  keyak.ByteStream(metadata.content), keyak.ByteStream(), True, forget)
-    return whole(motorist.states()[0][:16])
-
-
-class Session:
-    def __init__(self, book, instance):
-        self.book, self.instance = book, instance
-        self.record = table.unstarted(instance)
-        self.steps = []
-        book.sessions.append(self)
-
-    def note(self, words):
-        self.steps.append((" ".join(str(word) for word in words), self.record))
-
-    def answer_words(self, answer):
-        return answer._replace(runs="-") if self.book.outside else answer
-
-    def put(self, lanes, phase, text_start):
-        """Replace the record; lanes None keeps those in hand."""
-        kept = lanes is None
-        self.record = table.Record(self.record.lanes if kept else tuple(lanes),
-                                   phase, text_start)
-        told = whole(b"" if kept else keyak.lanes_to_bytes(lanes, self.instance.W // 8))
-        self.steps.append((f"hold {told.words} {phase} {text_start}", None))
-
-    def start(self, key, nonce, use, forget, tag):
-        buffer = bytearray(tag.content)
-        self.record, answer = table.start(self.instance, key.content, nonce.content,
-                                          use, buffer, bool(forget))
-        self.note(["start", key.words, nonce.words, use, forget, tag.words,
-                   *self.answer_words(answer), seen(buffer, tag)])
-        self.book.remember(self, "start", answer, key=key, nonce=nonce, tag=tag,
-                           use=use, forget=forget)
-        return answer, bytes(buffer)
-
-    def message(self, kind, text, metadata, forget, output, tag):
-        before = self.record
-        lent, lent_tag = bytearray(output.content), bytearray(tag.content)
-        call = {"wrap": table.wrap, "unwrap": table.unwrap}[kind]
-        self.record, answer = call(self.instance, self.record, text.content,
-                                   metadata.content, bool(forget), lent, lent_tag)
-        self.note([kind, text.words, metadata.words, forget, output.words,
-                   tag.words, *self.answer_words(answer), seen(lent, output),
-                   seen(lent_tag, tag)])
-        self.book.remember(self, kind, answer, text=text, metadata=metadata,
-                           output=output, tag=tag, forget=forget, phase=before.phase,
-                           text_start=before.text_start)
-        return answer, bytes(lent[:len(text.content)]), bytes(lent_tag)
-
-    def permute(self, rounds):
-        lanes, done = table.permute(self.instance, self.record.lanes, rounds)
-        self.record = self.record._replace(lanes=lanes)
-        self.note(["permute", rounds, done])
-        self.book.remember(self, "permute", table.Answer(0, 0, done), rounds=rounds)
-
-    def lines(self, number):
-        yield f"{self.instance.name.lower()} {number}"
-        for told, record in self.steps:
-            if record is None:
-                yield told
-            elif self.book.outside:
-                yield f"{told} - - - - - - -"
-            else:
-                yield f"{told} {record_words(self.instance, record)}"
-
-
-class Book:
-    """All sessions, and for the head and the coverage what they contain."""
-
-    def __init__(self, outside=False):
-        """outside: what only this library knows, runs and records, is left untold."""
-        self.outside = outside
-        self.sessions, self.families, self.facts = [], [], set()
-        self.answers, self.longest = {}, {}
-
-    def remember(self, session, kind, answer, **fields):
-        name, number = session.instance.name, answer.number
-        self.answers[kind, number] = self.answers.get((kind, number), 0) + 1
-        for field, value in fields.items():
-            if isinstance(value, Given):
-                value = len(value.content)
-                self.longest[field] = max(value, self.longest.get(field, 0))
-            self.facts.add((name, kind, number, field, value))
-            if "text_start" in fields:
-                self.facts.add((name, kind, number, fields["text_start"], field, value))
-            if "use" in fields:
-                self.facts.add((name, kind, number, "use", fields["use"], field, value))
-
-
-class Scribe:
-    """Writes sessions of one instance into the book."""
-
-    def __init__(self, book, instance, dice):
-        self.book, self.instance, self.dice = book, instance, dice
-
-    def open(self):
-        return Session(self.book, self.instance)
-
-    def begin(self, use=PRODUCED, forget=0, key_length=16, nonce_length=24):
-        """A session with a start that is done."""
-        session = self.open()
-        key, nonce = self.dice.bytes(key_length), self.dice.bytes(nonce_length)
-        session.start(key, nonce, use, forget, self.start_tag(use, key, nonce, forget))
-        return session
-
-    def start_tag(self, use, key, nonce, forget):
-        if use == CHECKED:
-            return right_start_tag(self.instance, key, nonce, bool(forget))
-        return self.dice.bytes(16)
-
-    def lent(self, length):
-        """An output buffer with room for length bytes and a few more."""
-        return self.dice.bytes(length + self.dice.below(8))
-
-    def send(self, session, kind, text_length, metadata_length, forget):
-        """A message that is done."""
-        text, metadata = self.dice.bytes(text_length), self.dice.bytes(metadata_length)
-        if kind == "unwrap":
-            tag = right_tag(self.instance, session.record, text, metadata, bool(forget))
-        else:
-            tag = self.dice.bytes(16)
-        return session.message(kind, text, metadata, forget, self.lent(text_length), tag)
-
-    def cryptogram(self, session, text_length, metadata_length, forget):
-        """Ciphertext, metadata and the right tag for the record in hand."""
-        text, metadata = self.dice.bytes(text_length), self.dice.bytes(metadata_length)
-        tag = right_tag(self.instance, session.record, text, metadata, bool(forget))
-        return text, metadata, tag
-
 
 # ---------------------------------------------------------------------------
 # What is covered.
@@ -324,29 +81,18 @@ def first_messages(scribe):
 
 
 def long_ones(scribe):
-    """Texts and metadata of 65,535 bytes, each instance, each call."""
-    session = scribe.begin(PRODUCED)
-    scribe.send(session, "wrap", 65535, 17, 0)
-    scribe.send(session, "unwrap", 16, 65535, 1)
-    scribe.send(session, "wrap", 0, 0, 0)
-    session = scribe.begin(NO_TAG)
-    scribe.send(session, "unwrap", 65535, 1000, 1)
-    scribe.send(session, "wrap", 1, 65535, 0)
+    """Texts and metadata of 65,535 bytes, alone and both, in each call, forgetting on and off."""
+    for kind, use in zip(KINDS, (PRODUCED, NO_TAG)):
+        session = scribe.begin(use)
+        scribe.send(session, kind, 65535, 65535, 1)
+        scribe.send(session, kind, 65535, 17, 0)
+        for forget in (0, 1):
+            scribe.send(session, kind, forget, 65535, forget)
+        scribe.send(session, "wrap", 0, 0, 0)
     session = scribe.begin(CHECKED)
     text, metadata, tag = scribe.cryptogram(session, 65535, 65535, 0)
     session.message("unwrap", flipped(text, 65534, 1), metadata, 0, scribe.lent(65535), tag)
     after_failure(scribe, session)
-
-
-def random_sessions(scribe):
-    """Two to six messages of random length, alternating as it falls."""
-    dice = scribe.dice
-    for _ in range(16):
-        session = scribe.begin(dice.pick(USES), dice.below(2), 16 + dice.below(17),
-                               dice.below(300))
-        for _ in range(2 + dice.below(5)):
-            scribe.send(session, dice.pick(KINDS), dice.below(1 + dice.pick((40, 400))),
-                        dice.below(1 + dice.pick((40, 400))), dice.below(2))
 
 
 def both_ends(scribe):
@@ -521,6 +267,26 @@ def wrong_tags(scribe):
     other_wrongs(scribe)
 
 
+def known_tags(scribe):
+    """A tag that anybody knows: of zeros, of ones, and the one before; at a start too."""
+    dice = scribe.dice
+    for tag in (pattern(16, 0, 0), pattern(16, 0, 255)):
+        for forget in (0, 1):
+            session = scribe.open()
+            session.start(dice.bytes(16), dice.bytes(12), CHECKED, forget, tag)
+            after_failure(scribe, session)
+            session = scribe.begin(USES[forget])
+            scribe.send(session, "wrap", 3, 3, 0)
+            text, metadata, _ = scribe.cryptogram(session, 20 * forget, 9, forget)
+            session.message("unwrap", text, metadata, forget, scribe.lent(20), tag)
+            after_failure(scribe, session)
+    session = scribe.begin(PRODUCED)
+    _, _, before = scribe.send(session, "wrap", 30, 4, 0)
+    text, metadata, _ = scribe.cryptogram(session, 30, 4, 0)
+    session.message("unwrap", text, metadata, 0, scribe.lent(30), whole(before))
+    after_failure(scribe, session)
+
+
 def other_wrongs(scribe):
     """Refusal 8 for nothing in the message, moved lengths and the other choice."""
     dice = scribe.dice
@@ -566,9 +332,9 @@ def permutations(scribe):
     session.permute(12)
 
 
-FAMILIES = (starts, lengths, first_messages, long_ones, random_sessions, both_ends,
-            records_by_hand, start_limits, restart, wrong_start_tags, not_riding,
-            message_limits, exact_outputs, wrong_tags, length_before_tag, permutations)
+FAMILIES = (starts, lengths, first_messages, long_ones, both_ends, records_by_hand,
+            start_limits, restart, wrong_start_tags, not_riding, message_limits,
+            exact_outputs, wrong_tags, known_tags, length_before_tag, permutations)
 
 
 def required(name):
@@ -588,6 +354,8 @@ def required(name):
         yield name, "start", 7, "use", PRODUCED, "tag", tag
         yield name, "start", 7, "use", CHECKED, "tag", tag
     yield name, "start", 8, "use", CHECKED, "tag", 16
+    yield name, "start", 8, "tag", "zeros"
+    yield name, "unwrap", 8, "tag", "zeros"
     for kind in KINDS:
         for text_start in table.TEXT_STARTS:
             for text in TEXTS[name]:
@@ -596,8 +364,10 @@ def required(name):
                 yield name, kind, 0, text_start, "metadata", metadata
             for forget in (0, 1):
                 yield name, kind, 0, text_start, "forget", forget
-        yield name, kind, 0, "text", 65535
-        yield name, kind, 0, "metadata", 65535
+        for forget in (0, 1):
+            yield name, kind, 0, "forget", forget, "text", 65535
+            yield name, kind, 0, "forget", forget, "metadata", 65535
+        yield name, kind, 0, "both", 65535, 65535
         yield name, kind, 1, "phase", table.UNSTARTED
         yield name, kind, 1, "phase", table.FAILED
         yield name, kind, 1, 8, "phase", table.RIDING
@@ -638,18 +408,36 @@ def count_notes(book):
     yield "#"
 
 
-def told(book):
-    """The lines of all sessions, and the line of totals."""
-    lines = [line for i, session in enumerate(book.sessions)
-             for line in session.lines(i + 1)]
-    return [*lines, f"end {len(book.sessions)} {sum(book.answers.values())}"]
-
-
 def whole_file():
     book = write_book()
-    lines = told(book)
+    lines = book.told()
     head = HEAD.format(seed=SEED, longest=max(map(len, lines)), **book.longest)
     return head + "\n".join([*count_notes(book), *lines]) + "\n"
+
+
+RANDOM = """\
+# Random sessions of Keyak v2, Lake and River, with what each call must answer and leave.
+# Made by reference/sessions.py from seed {seed}; the layout is described in docs/VECTORS.md.
+# Of each instance, Lake and River:
+"""
+
+
+def random_book():
+    """So many of each instance that the least counts of randoms.py are there."""
+    book, dice = Book(), Dice(SEED)
+    for instance in (keyak.LAKE, keyak.RIVER):
+        randoms.write(Scribe(book, instance, dice), 151, randoms.GATE)
+    few = randoms.missing(book)
+    if few:
+        raise AssertionError(f"too few: {few}")
+    return book
+
+
+def random_file():
+    book = random_book()
+    lake, river = (list(randoms.counts(book, name)) for name in ("Lake", "River"))
+    notes = [f"#   {one[1]} {other[1]} {one[0]}" for one, other in zip(lake, river)]
+    return RANDOM.format(seed=SEED) + "\n".join([*notes, "#", *book.told()]) + "\n"
 
 
 SAMPLE = """\
@@ -675,87 +463,18 @@ def sample_file():
                                          pattern(length, 0, 0), pattern(16, 0, 0))
             other.message("unwrap", whole(sealed), metadata, forget,
                           pattern(length, 0, 0), whole(tag))
-    return SAMPLE.format(seed=SEED) + "\n".join(told(book)) + "\n"
-
-
-def spoilt(line, place):
-    """The line with the last digit of word number place changed."""
-    words = line.split(" ")
-    words[place] = words[place][:-1] + ("1" if words[place][-1] == "0" else "0")
-    return " ".join(words)
-
-
-def wrong_file(sample):
-    """The sample with the last digit of the first tag that a wrap leaves changed."""
-    lines = sample.split("\n")
-    at = next(i for i, line in enumerate(lines) if line.startswith("wrap"))
-    lines[at] = spoilt(lines[at], TAG_HEX)
-    return "\n".join(lines)
-
-
-LATE = """\
-# For each instance a wrap of 65,535 bytes, told in full: only its last ciphertext byte is wrong.
-# Made by reference/sessions.py from seed {seed}.
-#
-"""
-
-
-def late_file():
-    """Two long wraps, each with the last digit of its output changed."""
-    book, dice = Book(), Dice(SEED)
-    for instance in (keyak.LAKE, keyak.RIVER):
-        session = Scribe(book, instance, dice).begin()
-        session.message("wrap", dice.bytes(65535), dice.bytes(17), 0, dice.bytes(65535),
-                        dice.bytes(16))
-    lines = [spoilt(line, OUTPUT_HEX) if line.startswith("wrap") else line
-             for line in told(book)]
-    return LATE.format(seed=SEED) + "\n".join(lines) + "\n"
-
-
-UNSOUND = """\
-# One start, and then the same with one word that is outside the layout: all but the first line differ.
-# Made by reference/sessions.py from seed {seed}.
-#
-"""
-
-
-def unsound_words(nonce):
-    """Words outside the layout, and their places in a start.
-
-    A reader that only cut what is too large, and took a wrong digit for 0, would read
-    each of them as the right word.
-    """
-    a, b, place, shown, nonce_shown, forget, tag_length = 2, 3, 4, 5, 10, 12, 13
-    return ((a, "256"), (b, "256"), (place, "17"), (place, "x"), (place, "-"), (shown, ""),
-            (nonce_shown, nonce + "0"), (nonce_shown, nonce + "00"),
-            (nonce_shown, "g" + nonce[1:]), (nonce_shown, "A" + nonce[1:]),
-            (forget, "2"), (forget, "-"), (tag_length, "33"), (tag_length, "3x"))
-
-
-def unsound_file():
-    """A start with nothing asked of its tag buffer, right once and then with each wrong word."""
-    book = Book()
-    session = Session(book, keyak.LAKE)
-    nonce = bytes(range(16))
-    session.start(pattern(16, 255, 255), whole(nonce), NO_TAG, 1, pattern(32, 3, 5))
-    opened, right, _ = told(book)
-    lines = [opened, right]
-    for place, word in unsound_words(nonce.hex()):
-        words = right.split(" ")
-        words[place] = word
-        lines.append(" ".join(words))
-    lines.append(right + " 0")
-    lines.append(f"end 1 {len(lines) - 1}")
-    return UNSOUND.format(seed=SEED) + "\n".join(lines) + "\n"
+    return SAMPLE.format(seed=SEED) + "\n".join(book.told()) + "\n"
 
 
 def files():
     sample = sample_file()
     yield "sessions.txt", whole_file()
+    yield "random.txt", random_file()
     yield "sample.txt", sample
-    yield "wrong.txt", wrong_file(sample)
-    yield "late.txt", late_file()
-    yield "unsound.txt", unsound_file()
+    yield "wrong.txt", wrongs.wrong_file(sample)
+    yield "late.txt", wrongs.late_file(SEED)
+    yield "words.txt", wrongs.words_file(SEED)
+    yield "unsound.txt", wrongs.unsound_file(SEED)
 
 
 def first_difference(a, b):

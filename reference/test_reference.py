@@ -1,8 +1,8 @@
 """Tests of the reference program: python3 -m unittest test_reference
 
 Known answers for the permutation, the plans of paper 01, the figures of
-document 003, round trips, the table of refusals, and the data file read back
-by the rules in its own head.
+document 003, round trips, the table of refusals, and the data files read back
+by the rules of docs/VECTORS.md.
 """
 
 import hashlib
@@ -14,9 +14,12 @@ import unittest
 from contextlib import redirect_stdout
 from unittest import mock
 
+import book
 import keyak
+import randoms
 import sessions
 import table
+import wrongs
 from keyak import ByteStream, LAKE, LUNAR, OCEAN, RIVER, SEA
 from table import CHECKED, NO_TAG, PRODUCED, Answer, Record
 
@@ -735,7 +738,7 @@ class Table(unittest.TestCase):
     def wrong_message(self, instance, record, part, text, tag):
         given = {"text": text, "metadata": b"m" * 30, "tag": tag}
         if part != "forget":
-            given[part] = sessions.xor_at(given[part], len(given[part]) - 1, 128)
+            given[part] = book.xor_at(given[part], len(given[part]) - 1, 128)
         lent, lent_tag = bytearray(b"o" * 207), bytearray(given["tag"])
         after, answer = table.unwrap(instance, record, given["text"], given["metadata"],
                                      part == "forget", lent, lent_tag)
@@ -892,12 +895,14 @@ class Replay:
 class DataFile(unittest.TestCase):
     @classmethod
     def setUpClass(cls):
-        cls.text = sessions.whole_file()
+        cls.text, cls.random = sessions.whole_file(), sessions.random_file()
 
     def run_main(self, content):
         """sessions.py --check on a folder whose sessions.txt has this content."""
         with tempfile.TemporaryDirectory() as folder, \
-                mock.patch.object(sessions, "whole_file", return_value=self.text):
+                mock.patch.object(sessions, "whole_file", return_value=self.text), \
+                mock.patch.object(sessions, "random_file", return_value=self.random), \
+                mock.patch.object(wrongs, "late_file", return_value="late"):
             with redirect_stdout(io.StringIO()):
                 sessions.write(folder)
                 with open(os.path.join(folder, "sessions.txt"), "w", encoding="ascii",
@@ -908,35 +913,41 @@ class DataFile(unittest.TestCase):
     def test_replay(self):
         self.assertGreaterEqual(Replay(self).whole_file(self.text), 400)
 
+    def test_replay_random(self):
+        self.assertGreaterEqual(Replay(self).whole_file(self.random), 290)
+
     def test_sample_and_wrong_byte(self):
         sample = sessions.sample_file()
         self.assertEqual(Replay(self, untold=True).whole_file(sample), 4)
-        wrong = sessions.wrong_file(sample)
+        wrong = wrongs.wrong_file(sample)
         self.assertEqual(sum(a != b for a, b in zip(sample, wrong)), 1)
         with self.assertRaises(AssertionError):
             Replay(self, untold=True).whole_file(wrong)
 
     def test_late_byte(self):
-        late = sessions.late_file()
-        with mock.patch.object(sessions, "spoilt", side_effect=lambda line, place: line):
-            right = sessions.late_file()
+        late = wrongs.late_file(sessions.SEED)
+        with mock.patch.object(wrongs, "spoilt", side_effect=lambda line, place: line):
+            right = wrongs.late_file(sessions.SEED)
         self.assertEqual(Replay(self).whole_file(right), 2)
         self.assertEqual(sum(a != b for a, b in zip(right, late)), 2)
         with self.assertRaises(AssertionError):
             Replay(self).whole_file(late)
 
     def test_unsound_lines(self):
-        head, right, *unsound, end = sessions.unsound_file().split("\n")[3:-1]
-        self.assertEqual(end, f"end 1 {1 + len(unsound)}")
+        head, right, *unsound, end, note = wrongs.unsound_file(sessions.SEED).split("\n")[5:-1]
+        self.assertTrue(note.startswith("#"))
+        calls = sum(line.startswith("start") for line in unsound)
+        self.assertEqual(end, f"end 1 {1 + calls}")
         self.assertEqual(Replay(self).whole_file(f"{head}\n{right}\nend 1 1\n"), 1)
-        self.assertEqual(len({right, *unsound}), 1 + len(unsound))
+        self.assertEqual(len({right, end, *unsound}), 2 + len(unsound))
 
     def test_size_and_letters(self):
-        self.assertLess(len(self.text), 2000000)
-        self.assertTrue(self.text.isascii())
-        self.assertEqual(self.text, self.text.rstrip("\n") + "\n")
-        self.assertNotIn("  ", "".join(row for row in self.text.split("\n")
-                                       if not row.startswith("#")))
+        for text in (self.text, self.random):
+            self.assertLess(len(text), 2000000)
+            self.assertTrue(text.isascii())
+            self.assertEqual(text, text.rstrip("\n") + "\n")
+            self.assertNotIn("  ", "".join(row for row in text.split("\n")
+                                           if not row.startswith("#")))
 
     def test_check_accepts_the_same(self):
         self.assertEqual(self.run_main(self.text), 0)
@@ -957,20 +968,127 @@ class DataFile(unittest.TestCase):
             with self.assertRaises(AssertionError) as caught:
                 sessions.write_book()
         self.assertIn("('Lake', 'start', 2, 'use', 0, 'key', 33)", str(caught.exception))
-        self.assertIn("('River', 'wrap', 0, 'text', 65535)", str(caught.exception))
+        self.assertIn("('River', 'wrap', 0, 'forget', 1, 'text', 65535)", str(caught.exception))
+        self.assertIn("('Lake', 'unwrap', 0, 'both', 65535, 65535)", str(caught.exception))
         self.assertNotIn("1000", str(caught.exception))
 
+    def test_missing_tag_of_zeros_is_noticed(self):
+        found = sessions.Book()
+        with mock.patch.object(sessions, "FAMILIES", [sessions.known_tags]), \
+                mock.patch.object(sessions, "Book", return_value=found):
+            with self.assertRaises(AssertionError):
+                sessions.write_book()
+        for name in ("Lake", "River"):
+            for kind in ("start", "unwrap"):
+                fact = (name, kind, 8, "tag", "zeros")
+                self.assertIn(fact, found.facts)
+                self.assertIn(fact, set(sessions.required(name)))
+
+    def test_too_few_random_sessions_are_noticed(self):
+        with mock.patch.object(randoms, "SESSIONS", 152), mock.patch.object(randoms, "FIRSTS", 104):
+            with self.assertRaises(AssertionError) as caught:
+                sessions.random_book()
+        self.assertIn("('River', 'sessions', 151, 152)", str(caught.exception))
+        self.assertIn("('Lake', 'not the second end of a talk', 103, 104)",
+                      str(caught.exception))
+
     def test_words_of_what_is_left(self):
-        lent = sessions.pattern(300, 7, 9)
-        self.assertEqual(sessions.seen(lent.content, lent), "300 7 9 0 -")
-        self.assertEqual(sessions.seen(bytes(200)), "200 0 0 0 -")
-        self.assertEqual(sessions.seen(b""), "0 0 0 0 -")
-        self.assertEqual(sessions.seen(b"\x05\x00\xff", lent), "3 0 0 0 0500ff")
+        lent = book.pattern(300, 7, 9)
+        self.assertEqual(book.seen(lent.content, lent), "300 7 9 0 -")
+        self.assertEqual(book.seen(bytes(200)), "200 0 0 0 -")
+        self.assertEqual(book.seen(b""), "0 0 0 0 -")
+        self.assertEqual(book.seen(b"\x05\x00\xff", lent), "3 0 0 0 0500ff")
         cleared = bytes(290) + lent.content[290:]
-        told = sessions.seen(cleared, lent)
+        told = book.seen(cleared, lent)
         self.assertEqual(told, "300 0 0 290 " + lent.content[290:].hex())
         self.assertTrue(Line(told).agrees(cleared))
         self.assertFalse(Line(told).agrees(lent.content))
+        like = book.pattern(290, 3, 4)
+        told = book.seen(like.content + b"\x01\x02", lent, like)
+        self.assertEqual(told, "292 3 4 290 0102")
+        self.assertTrue(Line(told).agrees(like.content + b"\x01\x02"))
+
+    def test_patterns(self):
+        for a, b in ((0, 7), (1, 0), (255, 255), (92, 13)):
+            for length in (0, 1, 256, 257, 700):
+                self.assertEqual(book.expand(length, a, b),
+                                 Line(f"{length} {a} {b} 0 -").given())
+
+
+class WrongWords(unittest.TestCase):
+    """words.txt: right but for one word a line, and each word of a result wrong somewhere."""
+
+    @classmethod
+    def setUpClass(cls):
+        cls.wrong = wrongs.words_file(sessions.SEED).split("\n")[:-1]
+        with mock.patch.object(wrongs.Slips, "tell", lambda self, place, word: None):
+            cls.right = wrongs.words_file(sessions.SEED).split("\n")[:-1]
+
+    def test_one_word_a_line(self):
+        self.assertEqual(len(self.wrong), len(self.right))
+        for wrong, right in zip(self.wrong, self.right):
+            pairs = list(zip(wrong.split(" "), right.split(" "), strict=True))
+            calls = right.split(" ")[0] in wrongs.RESULTS
+            self.assertEqual(sum(a != b for a, b in pairs), int(calls))
+
+    def test_right_but_for_that(self):
+        *lines, end = self.right
+        lines = [line for line in lines if not line.startswith("end")]
+        self.assertEqual(Replay(self).whole_file("\n".join([*lines, end]) + "\n"), 2)
+
+    def test_each_word_is_wrong_somewhere(self):
+        found, name = set(), None
+        for wrong, right in zip(self.wrong, self.right):
+            words = right.split(" ")
+            name = words[0] if words[0] in ("lake", "river") else name
+            found |= {(name, words[0], i) for i, word in enumerate(wrong.split(" "))
+                      if word != words[i]}
+        for name in ("lake", "river"):
+            for kind, (at, told) in wrongs.RESULTS.items():
+                size = told.count("n") + 5 * told.count("b")
+                places = {place for who, which, place in found if (who, which) == (name, kind)}
+                # A, B and PLACE are wrong only where a pattern, or zeros, stand before the bytes.
+                seldom = {at + i for i in range(size) if i not in self.always(told)}
+                self.assertLessEqual(set(range(at, at + size)) - seldom, places)
+        self.assertEqual({place for who, which, place in found if which == "end"}, set())
+
+    def test_each_number_is_wrong_in_each_way(self):
+        found, above, name = {}, set(), None
+        for wrong, right in zip(self.wrong, self.right):
+            kind, *words = right.split(" ")
+            name = kind if kind in ("lake", "river") else name
+            for i in self.numbers(kind):
+                there, told = int(words[i - 1]), int(wrong.split(" ")[i])
+                above |= {(name, kind, i)} if there else set()
+                found.setdefault((name, kind, i), set()).add(told - there)
+        self.assertEqual(len(found), 2 * (5 + 5 + 5 + 3))
+        # A start writes no output: only its WRITTEN is always 0, and never too small.
+        written = wrongs.RESULTS["start"][0] + 1
+        self.assertEqual(set(found) - above,
+                         {(name, "start", written) for name in ("lake", "river")})
+        for word, ways in found.items():
+            self.assertEqual(ways, {0, 1, 256, -1} if word in above else {0, 1, 256})
+
+    def numbers(self, kind):
+        """Where the numbers of a result stand in a line of this kind."""
+        at, told = wrongs.RESULTS.get(kind, (0, ""))
+        for one in told:
+            if one == "n":
+                yield at
+            at += 1 if one == "n" else 5
+
+    def always(self, told):
+        """The words of a result that are wrong in some line: numbers, LENGTH and HEX."""
+        at = 0
+        for kind in told:
+            yield from (at,) if kind == "n" else (at, at + 4)
+            at += 1 if kind == "n" else 5
+
+    def test_ends(self):
+        *wrong, right = ([int(word) for word in line.split(" ")[1:]] for line in self.wrong
+                         if line.startswith("end"))
+        self.assertEqual([[a - b for a, b in zip(one, right, strict=True)] for one in wrong],
+                         [[1, 0], [256, 0], [-1, 0], [0, 1], [0, 256], [0, -1]])
 
 
 if __name__ == "__main__":

@@ -1,5 +1,5 @@
 """docs/PROMISES.md names only what there is: files, theorems, contracts and must-fail edits; it names every edit; and it prints the contract of
-every public call as it stands in the code, where none has a `requires`. python3 tests/promises.py leaves with 1 and says what is missing."""
+every public call as it stands in the code, where none has a `requires`; and `dip` passes on just the dip's calls printed there. python3 tests/promises.py leaves with 1 and says what is missing."""
 import pathlib
 import re
 import sys
@@ -30,11 +30,23 @@ PUBLIC = ["lake", "river", "keccak64", "keccak32", "dip_header", "dip_readings"]
 INNER = {"keccak64::permute12", "keccak32::permute12"}
 
 
+def offered(crate):
+    """The functions that a crate offers: those of its lib.rt, and of a module what lib.rt passes on by `pub use`, or all by `pub mod`."""
+    lib = texts(f"{crate}/src/lib.rt")
+    for file in sorted((CRATES / crate / "src").rglob("*.rt")):
+        for found in re.finditer(r"^pub fn (\w+)\(.*?^\{", file.read_text(), re.M | re.S):
+            here = file.stem == "lib" or f"pub mod {file.stem};" in lib or f"pub use {file.stem}::{found[1]};" in lib
+            if here:
+                yield found[1], found[0]
+
+
 def contracts():
     """Of every function that a public crate offers: its name, and what stands between its arguments and its body."""
     for crate in PUBLIC:
-        for found in re.finditer(r"^pub fn (\w+)\(.*?^\{", texts(f"{crate}/src/**/*.rt"), re.M | re.S):
-            yield f"{crate}::{found[1]}", found[0]
+        if "::*" in texts(f"{crate}/src/**/*.rt"):
+            sys.exit(f"{crate}: what `::*` passes on is not looked at")
+        for name, text in offered(crate):
+            yield f"{crate}::{name}", text
 
 
 def unprinted(page):
@@ -44,6 +56,19 @@ def unprinted(page):
         printed = re.search(r"\| `[^`]+` \| `([^`]+)` \|", row)
         if call not in INNER and not (printed and f"ensures {{ λ r. ⌜ {printed[1]} ⌝ }}\n{{" in text and "requires" not in text):
             yield f"contract not printed as it stands: {call}"
+
+
+def passed_on(page):
+    """What `dip` offers beside the dip's calls that the page prints and the structs in their signatures, and what of these it leaves out."""
+    signatures = {call: text.split("ensures")[0] for call, text in contracts() if f"\n| `{call}` |" in page and call.startswith("dip_")}
+    needed = set(signatures)
+    for crate in {call.split("::")[0] for call in signatures}:
+        structs = re.findall(r"^pub struct (\w+)", texts(f"{crate}/src/**/*.rt"), re.M)
+        needed |= {f"{crate}::{name}" for name in structs if re.search(rf"\b{name}\b", "".join(signatures.values()))}
+    lines = re.sub(r"//.*", "", texts("dip/src/**/*.rt")).split("\n")
+    offered = {re.sub(r"^pub use (\w+::\w+);$", r"\1", line) for line in lines if line.strip()}
+    yield from (f"dip offers what is no printed call of the dip: {more}" for more in sorted(offered - needed))
+    yield from (f"dip does not pass on: {less}" for less in sorted(needed - offered))
 
 
 def main():
@@ -73,7 +98,7 @@ def main():
                 there = re.search(rf"(^|\s){re.escape(word)} :|^ *(pub )?record {re.escape(word)} ", laws, re.M) or re.search(rf"\b{re.escape(word)}\b", code)
             if not there:
                 missing.append(f"no such thing: {word}")
-    missing += unprinted(page)
+    missing += [*unprinted(page), *passed_on(page)]
     for file in sorted(CRATES.glob("*/must-fail/*.edit")):
         if (file.parts[1], file.stem) not in edits:
             missing.append(f"not named: {file}")

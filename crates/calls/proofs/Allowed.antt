@@ -2,7 +2,7 @@
 use mathlib.Core.Path.{_≡_, refl, ap}
 use mathlib.Core.Bool.{Bool, true, false, not, _&&_}
 use mathlib.Core.Logic.{_⊎_, inl, inr}
-use Prim.Native.Nat.{ℕ, _%_, _≤_, _<_}
+use Prim.Native.Nat.{ℕ, _%_, _<_}
 use native.Mathlib.Omega.{arith}
 use borrow.Author.Tests.{ltb-false, le-ltb, leb-true, le-leb, eqb-true, eq-eqb, ne-eqb, not-false}
 use lib.Dec.{leb, eqb}
@@ -14,15 +14,9 @@ use Rattle.slices.proofs.Bools.{and-both, or-either}
 use Rattle.motorist.specs.Instance.{Instance, Sound, textRate, tagLength}
 use Rattle.calls.specs.Session.{live}
 use Rattle.calls.specs.Outcome.{messageRules, startRules}
+use Rattle.calls.specs.Allowed.{Allowed, AllowedStart}
 
--- a message on a session of this phase and text start, of t bytes of text and m of metadata, with an output of d bytes and a tag of g
-pub record Allowed (phase : Phase) (at t m d g : ℕ) : Type 0 where
-  pub session : live phase at ≡ true
-  pub text : t ≤ 65535
-  pub meta : m ≤ 65535
-  pub output : t ≤ d
-  pub tag : g ≡ tagLength
-
+-- ---- a message
 pub allowed : (phase : Phase) (at t m d g : ℕ) → None (messageRules phase at t m d g) → Allowed phase at t m d g
 allowed phase at t m d g h =
     record {
@@ -37,13 +31,7 @@ pub none-refused : (phase : Phase) (at t m d g : ℕ) → Allowed phase at t m d
 none-refused phase at t m d g a =
     (ap not (a .session), (le-ltb 65535 t (a .text), (le-ltb 65535 m (a .meta), (le-ltb d t (a .output), (ap not (eq-eqb g tagLength (a .tag)), tt)))))
 
--- a start with a key of k bytes, a nonce of n and a tag buffer of g
-pub record AllowedStart (k n : ℕ) (choice : StartTag) (g : ℕ) : Type 0 where
-  pub long : 16 ≤ k
-  pub short : k ≤ 32
-  pub nonce : n ≤ 1024
-  pub tag : asked choice ≡ true → g ≡ tagLength
-
+-- ---- a start
 pub allowed-start : (k n : ℕ) (choice : StartTag) (g : ℕ) → None (startRules k n choice g) → AllowedStart k n choice g
 allowed-start k n choice g h =
     let key = and-both (leb 16 k) (leb k 32) (not-false (leb 16 k && leb k 32) (h .0)) in

@@ -1,6 +1,6 @@
 -- Chains of calls in which none is refused: where they stand in motorist's definition of a session.
 use mathlib.Core.Path.{_≡_, refl, ap, _∙_}
-use mathlib.Core.List.{List, [], _∷_, _++_, map}
+use mathlib.Core.List.{List, [], _∷_, map}
 use Prim.Native.Nat.{ℕ, _<_}
 use lib.ListN.{drop}
 use lib.Seq.{take-at}
@@ -27,15 +27,6 @@ behind-tag [] = refl
 behind-tag (c ∷ cs) = refl
 
 module _ {R : Type 0} (K : Records R) (i : Instance) (f : Bytes → Bytes) where
-  -- ---- all are done, so those in front are, and those behind them
-  pub done-front : (x : R) (front back : List Call) → AllDone (outcomes K i f x (front ++ back)) → AllDone (outcomes K i f x front)
-  done-front x [] back h = tt
-  done-front x (c ∷ front) back h = (h .0, done-front _ front back (h .1))
-
-  pub done-back : (x : R) (front back : List Call) → AllDone (outcomes K i f x (front ++ back)) → AllDone (outcomes K i f (endOf K i f x front) back)
-  done-back x [] back h = h
-  done-back x (c ∷ front) back h = done-back _ front back (h .1)
-
   -- ---- a call that is done has room for its text, and put out what its ride puts out
   pub call-fits : Sound i → (x : R) (c : Call) → callOf K i f x c .answer .number ≡ done → K .shows x .at < textRate i
   call-fits ok x c e = live-fits i ok (K .shows x .phase) (K .shows x .at) (call-allowed K i f x c e .session)

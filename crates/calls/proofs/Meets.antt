@@ -1,115 +1,122 @@
--- What the code of an instance has to show, call by call, over any instance: the refusal that was found, or the work that was done,
--- is the definition's outcome. Lake and River cite these.
+-- What the code of an instance has to show, over any instance. Of a thin call: the number that it found refuses it, or its work is the
+-- definition's. Of the work: what came of a ride is what the definition says of it. Lake and River cite these.
 use mathlib.Core.Path.{_≡_, refl, sym, ap, _∙_}
 use mathlib.Core.Bool.{Bool, true, false}
-use mathlib.Core.List.{List, [], _∷_, _++_}
-use Prim.Native.Nat.{ℕ, _*_, _^_, _<_}
+use mathlib.Core.List.{List, [], _∷_}
+use Prim.Native.Nat.{ℕ, _*_, _%_, _^_, _≤_, _<_}
 use native.Mathlib.Omega.{arith}
-use lib.ListN.{length, getD, take, drop, replicate}
+use lib.ListN.{length, getD, take, drop, length-append, length-drop}
 use lib.Seq.{drop-at}
-use Rattle.motorist.proofs.Rides.{message-output}
 use Rattle.keccak.specs.State.{bytes, lanesFrom}
 use Rattle.keccak.proofs.State.{lanes-bytes}
-use Rattle.table.specs.Numbers.{done, tag-differs}
 use Rattle.table.specs.Refusals.{first, ifDone}
 use Rattle.table.specs.Choices.{asked}
 use Rattle.table.specs.declared.Phase.{Phase}
 use Rattle.table.specs.declared.StartTag.{StartTag}
 use Rattle.table.specs.declared.StartTag.the-variants.{None, Produced, Checked}
-use Rattle.table.proofs.Exact.{exact, not-done}
+use Rattle.table.proofs.Exact.{exact, is-done, not-done}
 use Rattle.slices.specs.Same.{sameBytes}
-use Rattle.motorist.specs.Instance.{Instance, Sound, tagLength}
+use Rattle.motorist.specs.Instance.{Instance, Sound, textRate, tagLength}
 use Rattle.motorist.specs.Piston.{Bytes}
-use Rattle.motorist.specs.Engine.{Ride}
+use Rattle.motorist.specs.Engine.{Ride, States}
 use Rattle.motorist.specs.Rode.{Rode}
-use Rattle.motorist.specs.Motorist.{Message, start, message}
+use Rattle.motorist.specs.Motorist.{Message, tag, start, wrap, unwrap}
 use Rattle.calls.specs.Session.{View, Records}
-use Rattle.calls.proofs.Allowed.{Allowed, AllowedStart, allowed, allowed-start, live-fits}
-use Rattle.calls.specs.Outcome.{answer, refused, messageRules, startRules, wrapRules, openRules, started, wrapOf, unwrapOf, startOf}
+use Rattle.calls.specs.Outcome.{refused, messageRules, startRules, wrapRules, openRules, wrapped, unwrapped, checked, started, wrapOf, unwrapOf, startOf}
+use Rattle.calls.specs.Allowed.{Allowed, AllowedStart}
+use Rattle.calls.specs.Ends.{Began, onward, judged, withheld}
+use Rattle.calls.proofs.Allowed.{allowed, allowed-start, live-fits, live-lane}
 
 -- lanes are those of their bytes, w bytes a lane
 pub lanes-back : (w n : ℕ) (l : List ℕ) → length l ≡ n → ((i : ℕ) → getD l i 0 < 2 ^ (8 * w)) → lanesFrom w n (bytes w l) ≡ l
 lanes-back w n l e h = rw (← e) (lanes-bytes w l h)
 
 -- ---- where no refusal was found
-pub message-allowed : (phase : Phase) (at t m d g why : ℕ) → why ≡ first (messageRules phase at t m d g) → why ≡ 0 → Allowed phase at t m d g
-message-allowed phase at t m d g why e z = allowed phase at t m d g (exact (messageRules phase at t m d g) (omega arith) .done .0 (sym e ∙ z))
+pub message-allowed : {phase : Phase} {at t m d g why : ℕ} → why ≡ first (messageRules phase at t m d g) → why ≡ 0 → Allowed phase at t m d g
+message-allowed {phase} {at} {t} {m} {d} {g} e z = allowed phase at t m d g (exact (messageRules phase at t m d g) (omega arith) .done .0 (sym e ∙ z))
 
-pub start-allowed : (k n : ℕ) (choice : StartTag) (g why : ℕ) → why ≡ first (startRules k n choice g) → why ≡ 0 → AllowedStart k n choice g
-start-allowed k n choice g why e z = allowed-start k n choice g (exact (startRules k n choice g) (omega arith) .done .0 (sym e ∙ z))
+pub start-allowed : {k n : ℕ} {choice : StartTag} {g why : ℕ} → why ≡ first (startRules k n choice g) → why ≡ 0 → AllowedStart k n choice g
+start-allowed {k} {n} {choice} {g} e z = allowed-start k n choice g (exact (startRules k n choice g) (omega arith) .done .0 (sym e ∙ z))
 
--- ---- what is done counts where no refusal was found
-if-done : {A : Type 0} (why : ℕ) (new old : A) → why ≡ 0 → ifDone why new old ≡ new
-if-done why new old e = rw e refl
+-- its text start leaves room in a block, and is the first byte of a lane of w bytes
+pub text-fits : {phase : Phase} {at t m d g : ℕ} (i : Instance) → Sound i → Allowed phase at t m d g → at < textRate i
+text-fits {phase} {at} i ok a = live-fits i ok phase at (a .session)
 
-module _ {R : Type 0} (K : Records R) (i : Instance) (f : Bytes → Bytes) (x : R) (m : Message) (out g : Bytes) (why : ℕ)
+pub text-lane : {phase : Phase} {at t m d g : ℕ} (w : ℕ) → 0 % w ≡ 0 → tagLength % w ≡ 0 → Allowed phase at t m d g → at % w ≡ 0
+text-lane {phase} {at} w z l a = live-lane w z l phase at (a .session)
+
+-- ---- the thin calls: refused by the number that was found, or the work
+if-done : {A : Type 0} (why : ℕ) (new old : A) → why ≡ 0 → new ≡ ifDone why new old
+if-done why new old e = sym (is-done why new old e)
+
+if-refused : {A : Type 0} (why : ℕ) (new old : A) → (why ≡ 0 → ⊥) → old ≡ ifDone why new old
+if-refused why new old n = sym (not-done why new old n)
+
+module _ {R : Type 0} (K : Records R) (i : Instance) (f : Bytes → Bytes) (x : R) (m : Message) (out g : Bytes) {why : ℕ}
     (found : why ≡ first (wrapRules (K .shows x) m out g)) where
   abbrev v : View
   v = K .shows x
 
-  pub wrap-refused : (why ≡ 0 → ⊥) → wrapOf K i f x m out g ≡ refused why x out g
+  pub wrap-refused : (why ≡ 0 → ⊥) → refused why x out g ≡ wrapOf K i f x m out g
   unfolding wrapOf
-  wrap-refused n = rw (← found) (not-done why _ _ n)
+  wrap-refused n = rw (← found) (if-refused why _ _ n)
 
-  pub unwrap-refused : (why ≡ 0 → ⊥) → unwrapOf K i f x m g out ≡ refused why x out g
+  pub unwrap-refused : (why ≡ 0 → ⊥) → refused why x out g ≡ unwrapOf K i f x m g out
   unfolding unwrapOf
-  unwrap-refused n = rw (← found) (not-done why _ _ n)
+  unwrap-refused n = rw (← found) (if-refused why _ _ n)
 
-  -- ---- a message done: the state s, the runs n, the output o
-  module _ (ok : why ≡ 0) (s : Bytes) (n : ℕ) (o : Bytes) where
-    pub wrap-done : (t : Bytes) → Rode (message i f false (v .state ∷ []) (v .at) m) (length (m .text)) out s o n → t ≡ take (length g) s
-        → wrapOf K i f x m out g ≡ record { answer = answer done (length (m .text)) n; session = K .riding s tagLength; out = o; tag = t }
-    unfolding wrapOf
-    wrap-done t h ht =
-        let k = message-allowed (v .phase) (v .at) (length (m .text)) (length (m .meta)) (length out) (length g) why found ok in
-        let t′ : t ≡ take tagLength s = rw (k .tag) at ht in
-        rw (← found, if-done why _ _ ok, t′, h .output, h .runs, ← h .states) refl
+  pub wrap-done : why ≡ 0 → wrapped K (wrap i f (v .state ∷ []) (v .at) m) (length (m .text)) out ≡ wrapOf K i f x m out g
+  unfolding wrapOf
+  wrap-done z = rw (← found) (if-done why _ _ z)
 
-    pub unwrap-done : Rode (message i f true (v .state ∷ []) (v .at) m) (length (m .text)) out s o n → sameBytes (take tagLength s) g ≡ true
-        → unwrapOf K i f x m g out ≡ record { answer = answer done (length (m .text)) n; session = K .riding s tagLength; out = o; tag = g }
-    unfolding unwrapOf
-    unwrap-done h ht = rw (← found, if-done why _ _ ok, h .output, h .runs, ← h .states, ht) refl
-
-  -- a cryptogram with a wrong tag: what came out, d, is cleared
-  pub unwrap-wrong : why ≡ 0 → Sound i → (s d o : Bytes) (n : ℕ) → Rode (message i f true (v .state ∷ []) (v .at) m) (length (m .text)) out s d n
-      → sameBytes (take tagLength s) g ≡ false → o ≡ replicate (length (m .text)) 0 ++ drop (length (m .text)) d
-      → unwrapOf K i f x m g out ≡ record { answer = answer tag-differs 0 0; session = K .failed; out = o; tag = g }
+  pub unwrap-done : why ≡ 0
+      → (let r : Ride = unwrap i f (v .state ∷ []) (v .at) m in
+      unwrapped K (sameBytes (tag (r .states)) g) r (length (m .text)) out g) ≡ unwrapOf K i f x m g out
   unfolding unwrapOf
-  unwrap-wrong ok sound s d o n h ht ho =
-      let k = message-allowed (v .phase) (v .at) (length (m .text)) (length (m .meta)) (length out) (length g) why found ok in
-      let l = message-output i f sound true (v .state ∷ []) (v .at) (live-fits i sound (v .phase) (v .at) (k .session)) m in
-      let e : drop (length (m .text)) d ≡ drop (length (m .text)) out = ap (drop (length (m .text))) (h .output) ∙ drop-at (message i f true (v .state ∷ []) (v .at) m .output) (drop (length (m .text)) out) (length (m .text)) l in
-      rw (← found, if-done why _ _ ok, ho, e, ← h .states, ht) refl
+  unwrap-done z = rw (← found) (if-done why _ _ z)
 
--- ---- a start
-module _ {R : Type 0} (K : Records R) (i : Instance) (f : Bytes → Bytes) (key nonce : Bytes) (forgets : Bool) (choice : StartTag) (g : Bytes) (why : ℕ)
+module _ {R : Type 0} (K : Records R) (i : Instance) (f : Bytes → Bytes) (key nonce : Bytes) (forgets : Bool) (choice : StartTag) (g : Bytes) {why : ℕ}
     (found : why ≡ first (openRules key nonce choice g)) where
-  pub start-refused : (why ≡ 0 → ⊥) → startOf K i f key nonce forgets choice g ≡ refused why (K .unstarted) [] g
+  pub start-refused : (why ≡ 0 → ⊥) → refused why (K .unstarted) [] g ≡ startOf K i f key nonce forgets choice g
   unfolding startOf
-  start-refused n = rw (← found) (not-done why _ _ n)
+  start-refused n = rw (← found) (if-refused why _ _ n)
 
-  module _ (ok : why ≡ 0) (s : Bytes) (n : ℕ) where
-    abbrev ride : Ride
-    ride = start i f (record { key = key; nonce = nonce; tagged = asked choice; forgets = forgets })
+  pub start-done : why ≡ 0
+      → started K choice (start i f (record { key = key; nonce = nonce; tagged = asked choice; forgets = forgets })) g ≡ startOf K i f key nonce forgets choice g
+  unfolding startOf
+  start-done z = rw (← found) (if-done why _ _ z)
 
-    start-is : startOf K i f key nonce forgets choice g ≡ started K choice ride g
-    unfolding startOf
-    start-is = rw (← found) (if-done why _ _ ok)
+-- ---- the work of a message: of a ride came the state s, the output o and n runs
+module _ {R : Type 0} (K : Records R) {r : Ride} {t : ℕ} {d s o : Bytes} {n : ℕ} (h : Rode r t d s o n) where
+  pub wrapped-is : onward K true s t n o (take tagLength s) ≡ wrapped K r t d
+  wrapped-is = rw (h .output, h .runs, ← h .states) refl
 
-    pub start-untagged : choice ≡ None → s ∷ [] ≡ ride .states → n ≡ length (ride .blocks)
-        → startOf K i f key nonce forgets choice g ≡ record { answer = answer done 0 n; session = K .riding s 0; out = []; tag = g }
-    start-untagged h hs hn = start-is ∙ rw (hn, ← hs, h) refl
+  pub unwrapped-is : (g : Bytes) → length o ≡ length d → t ≤ length d
+      → judged K (sameBytes (take tagLength s) g) s t n (withheld (sameBytes (take tagLength s) g) t o) g ≡ unwrapped K (sameBytes (tag (r .states)) g) r t d g
+  unwrapped-is g e le =
+      let q : sameBytes (take tagLength s) g ≡ sameBytes (tag (r .states)) g = ap (λ (ss : States). sameBytes (tag ss) g) (h .states) in
+      rw (← q) (go (sameBytes (take tagLength s) g))
+    where
+      l : length (r .output) ≡ t
+      l = omega (arith, simp (length-append, length-drop) at (sym (ap length (h .output)) ∙ e))
 
-    pub start-produced : (t : Bytes) → choice ≡ Produced → s ∷ [] ≡ ride .states → n ≡ length (ride .blocks) → t ≡ take (length g) s
-        → startOf K i f key nonce forgets choice g ≡ record { answer = answer done 0 n; session = K .riding s tagLength; out = []; tag = t }
-    start-produced t h hs hn ht =
-        let k = start-allowed (length key) (length nonce) choice (length g) why found ok in
-        let t′ : t ≡ take tagLength s = rw (k .tag (rw h refl)) at ht in
-        start-is ∙ rw (hn, t′, ← hs, h) refl
+      go : (b : Bool) → judged K b s t n (withheld b t o) g ≡ unwrapped K b r t d g
+      go true = rw (h .output, h .runs, ← h .states) refl
+      go false = rw (h .output, drop-at (r .output) (drop t d) t l) refl
 
-    pub start-right : choice ≡ Checked → s ∷ [] ≡ ride .states → n ≡ length (ride .blocks) → sameBytes (take tagLength s) g ≡ true
-        → startOf K i f key nonce forgets choice g ≡ record { answer = answer done 0 n; session = K .riding s tagLength; out = []; tag = g }
-    start-right h hs hn ht = start-is ∙ rw (hn, ← hs, h, ht) refl
+-- ---- the work of a start: of a ride came the state s and n runs
+module _ {R : Type 0} (K : Records R) {choice : StartTag} {r : Ride} {s : Bytes} {n : ℕ} (h : Began r s n) (g : Bytes) where
+  pub begun-untagged : choice ≡ None → onward K false s 0 n [] g ≡ started K choice r g
+  begun-untagged e = rw (e, h .runs, ← h .states) refl
 
-    pub start-wrong : choice ≡ Checked → s ∷ [] ≡ ride .states → sameBytes (take tagLength s) g ≡ false → startOf K i f key nonce forgets choice g ≡ refused tag-differs (K .failed) [] g
-    start-wrong h hs ht = start-is ∙ rw (← hs, h, ht) refl
+  pub begun-produced : choice ≡ Produced → onward K true s 0 n [] (take tagLength s) ≡ started K choice r g
+  begun-produced e = rw (e, h .runs, ← h .states) refl
+
+  pub begun-checked : choice ≡ Checked → judged K (sameBytes (take tagLength s) g) s 0 n [] g ≡ started K choice r g
+  begun-checked e =
+      let q : sameBytes (take tagLength s) g ≡ sameBytes (tag (r .states)) g = ap (λ (ss : States). sameBytes (tag ss) g) (h .states) in
+      rw (e, ← q) (go (sameBytes (take tagLength s) g))
+    where
+      go : (b : Bool) → judged K b s 0 n [] g ≡ checked K b r g
+      go true = rw (h .runs, ← h .states) refl
+      go false = refl

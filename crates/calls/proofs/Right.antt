@@ -1,6 +1,6 @@
--- Demand 2, first half. In every chain of calls from a start, none refused and each made on the record that the one before gave back, every step puts out the
--- ciphertext or plaintext and the tag, answers the runs and leaves the session of motorist's definition at that step.
-use mathlib.Core.Path.{_≡_, ap₂, _∙_}
+-- Demand 2, first half. In every chain of calls from a start, in which no tag differs and each is made on the record that the one before gave back, every accepted step puts
+-- out the ciphertext or plaintext and the tag, answers the runs and leaves the session of motorist's definition at that step.
+use mathlib.Core.Path.{_≡_, subst, ap₂, _∙_}
 use mathlib.Core.List.{List, [], _∷_, _++_, map, append-nil, append-assoc}
 use Prim.Native.Nat.{ℕ}
 use Rattle.table.specs.Numbers.{done}
@@ -13,11 +13,12 @@ use Rattle.motorist.specs.Session.{Steps, steps}
 use Rattle.calls.specs.Session.{Records, Serves}
 use Rattle.calls.specs.Outcome.{wrapped}
 use Rattle.calls.specs.Chain.{Call, Opening, callOf, endOf, begins}
-use Rattle.calls.specs.Words.{textLength, Unrefused, startIn, stepOf, textStart}
+use Rattle.calls.specs.Words.{textLength, Unbroken, acceptedOf, startIn, stepOf, defined, textStart, Stands}
 use Rattle.calls.specs.Promises.{andThen, RightAt, Right}
-use Rattle.calls.proofs.Chains.{behind-tag, done-front, done-back, stands}
+use Rattle.calls.proofs.Chains.{behind-tag, stands}
 use Rattle.calls.proofs.OneCall.{call-done}
 use Rattle.calls.proofs.Refusals.{start-leaves}
+use Rattle.calls.proofs.Struck.{unbroken-front, struck, accepted-unrefused, unrefused-unbroken}
 
 steps-then : (i : Instance) (f : Bytes → Bytes) (ss : States) (at : ℕ) (cs : List Call) (c : Call)
     → (let y : Steps = steps i f ss at (map stepOf cs) in
@@ -29,13 +30,16 @@ module _ {b w k : ℕ} (ok : Sound (solo b w k)) (f : Bytes → Bytes) {R : Type
   abbrev one : Instance
   one = solo b w k
 
-  right-at : (a : Opening) (front : List Call) (c : Call) (back : List Call) → Unrefused K one f a (front ++ (c ∷ back)) → RightAt K one f a front c
-  right-at a front c back h =
+  right-at : (a : Opening) (front : List Call) (c : Call) (back : List Call) → Unbroken K one f a (front ++ (c ∷ back))
+      → callOf K one f (endOf K one f (begins K one f a) front) c .answer .number ≡ done → RightAt K one f a front c
+  right-at a front c back h d =
       let x : R = endOf K one f (begins K one f a) front in
-      let s = stands ok f K serves a front (record { start = h .start; calls = done-front K one f (begins K one f a) front (c ∷ back) (h .calls) }) in
-      let d : callOf K one f x c .answer .number ≡ done = done-back K one f (begins K one f a) front (c ∷ back) (h .calls) .0 in
+      let u = unbroken-front K one f a front (c ∷ back) h in
+      let s : Stands (K .shows x) (defined one f a (acceptedOf K one f a front)) (textStart (taken (asked (a .choice))) (acceptedOf K one f a front)) =
+      subst (λ (y : R). Stands (K .shows y) (defined one f a (acceptedOf K one f a front)) (textStart (taken (asked (a .choice))) (acceptedOf K one f a front)))
+      (struck K one f (begins K one f a) front (u .calls) .session) (stands ok f K serves a (acceptedOf K one f a front) (accepted-unrefused K one f a front u)) in
       record {
-        definition = steps-then one f (start one f (startIn a) .states) (taken (asked (a .choice))) front c;
+        definition = steps-then one f (start one f (startIn a) .states) (taken (asked (a .choice))) (acceptedOf K one f a front) c;
         session = s;
         outcome =
             call-done K one f x c d
@@ -43,4 +47,4 @@ module _ {b w k : ℕ} (ok : Sound (solo b w k)) (f : Bytes → Bytes) {R : Type
       }
 
   pub right : Right K one f
-  right = record { opening = λ a. start-leaves K one f a .done; steps = right-at }
+  right = record { opening = λ a. start-leaves K one f a .done; struck = struck K one f; steps = right-at; unrefused = unrefused-unbroken K one f }

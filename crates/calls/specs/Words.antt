@@ -1,9 +1,10 @@
--- The words that the promises share: a call's ride, a chain in which none is refused, and the same chain in motorist's definition of a session.
+-- The words that the promises share: a call's ride, a chain in which none is refused or no tag differs, its accepted calls, and a chain in motorist's definition of a session.
 use mathlib.Core.Path.{_≡_}
 use mathlib.Core.List.{List, [], _∷_, map}
 use Prim.Native.Nat.{ℕ}
 use lib.ListN.{length, take}
-use Rattle.table.specs.Numbers.{done}
+use Rattle.table.specs.Numbers.{done, tag-differs}
+use Rattle.table.specs.Refusals.{ifDone}
 use Rattle.table.specs.Choices.{asked}
 use Rattle.table.specs.declared.Phase.the-variants.{Riding}
 use Rattle.motorist.specs.Instance.{Instance, tagLength}
@@ -13,7 +14,7 @@ use Rattle.motorist.specs.Motorist.{Start, taken, start, message}
 use Rattle.motorist.specs.Session.{Step, step, Steps, steps}
 use Rattle.calls.specs.Session.{View, Records}
 use Rattle.calls.specs.Outcome.{Outcome}
-use Rattle.calls.specs.Chain.{Call, Opening, outcomes, openingOf, begins}
+use Rattle.calls.specs.Chain.{Call, Opening, callOf, outcomes, openingOf, begins}
 
 -- ---- a call
 abbrev pub textLength : Call → ℕ
@@ -33,10 +34,37 @@ abbrev pub AllDone : {R : Type 0} → List (Outcome R) → Type 0
 AllDone [] = Unit {0}
 AllDone (o ∷ os) = (o .answer .number ≡ done) × AllDone os
 
--- a start and then calls, each on the session that the one before left, and none refused
-pub record Unrefused {R : Type 0} (K : Records R) (i : Instance) (f : Bytes → Bytes) (a : Opening) (cs : List Call) : Type 0 where
-  pub start : openingOf K i f a .answer .number ≡ done
-  pub calls : AllDone (outcomes K i f (begins K i f a) cs)
+-- none says that its tag differs
+abbrev pub NoneDiffers : {R : Type 0} → List (Outcome R) → Type 0
+NoneDiffers [] = Unit {0}
+NoneDiffers (o ∷ os) = (o .answer .number ≡ tag-differs → ⊥) × NoneDiffers os
+
+-- of these outcomes, those of the calls that are done
+abbrev pub onlyDone : {R : Type 0} → List (Outcome R) → List (Outcome R)
+onlyDone [] = []
+onlyDone (o ∷ os) = ifDone (o .answer .number) (o ∷ onlyDone os) (onlyDone os)
+
+module _ {R : Type 0} (K : Records R) (i : Instance) (f : Bytes → Bytes) where
+  -- a start and then calls, each on the session that the one before left, and none refused
+  pub record Unrefused (a : Opening) (cs : List Call) : Type 0 where
+    pub start : openingOf K i f a .answer .number ≡ done
+    pub calls : AllDone (outcomes K i f (begins K i f a) cs)
+
+  -- the same, but calls in between may be refused, as long as no tag differs: by an output too short, a text too long, and the like
+  pub record Unbroken (a : Opening) (cs : List Call) : Type 0 where
+    pub start : openingOf K i f a .answer .number ≡ done
+    pub calls : NoneDiffers (outcomes K i f (begins K i f a) cs)
+
+  -- of the calls cs from the session x on, those that are done, in their order: the refused ones are struck
+  abbrev pub accepted : R → List Call → List Call
+  accepted x [] = []
+  accepted x (c ∷ cs) =
+      let o : Outcome R = callOf K i f x c in
+      ifDone (o .answer .number) (c ∷ accepted (o .session) cs) (accepted (o .session) cs)
+
+  -- the accepted calls of a chain
+  abbrev pub acceptedOf : Opening → List Call → List Call
+  acceptedOf a cs = accepted (begins K i f a) cs
 
 -- ---- in motorist's words
 abbrev pub startIn : Opening → Start

@@ -5,7 +5,7 @@ use table::StartTag;
 // Seals the readings `text` (up to 124 bytes) with the header `meta`, opens them on a second session into `out`, and answers
 // that session's number: 0 where `out` holds the readings, 8 where the tag differs and `out` holds zeros.
 pub fn there_and_back(key: &[u8], nonce: &[u8], meta: &[u8], text: &[u8], out: &mut [u8]) -> u8 {
-    let mut tag = [0u8; 16];
+    let mut tag = [0u8; table::TAG_BYTES];
     let mut room = [0u8; 124];
     let n = slices::least(text.len(), 124);
     let sender = lake::start(key, nonce, false, StartTag::None, &mut tag);

@@ -84,9 +84,10 @@ stretch-more o d from j v h g e =
     let l : j < length (drop from o) = rw length-drop (omega arith) in
     rw (grow-one (take j (drop from o)) d j v 0 (length-take-le j (drop from o) (omega arith)) g, e, ← getD-drop from o j 0, add-one, ← take-suc (drop from o) j 0 l) refl
 
--- its length, from the counts that the code was handed
+-- its length, from the counts that the code was handed and sums: n bytes of nonce behind the key pack, and two bytes more
 pub opening-total : (i : Instance) → Sound i → (r : Rates) → RatesOf i r → (key nonce : Bytes) → length key ≤ 32
-    → (length (opening (packLength i) key nonce) ≡ r .pack .0 + length nonce + 2) × (r .pack .0 < 256)
-opening-total i ok r p key nonce h =
+    → {n s t : ℕ} → n ≡ length nonce → s ≡ r .pack .0 + n → t ≡ s + 2
+    → (length (opening (packLength i) key nonce) ≡ t) × (t < length nonce + 258)
+opening-total i ok r p key nonce h en es et =
     let e = opening-length (packLength i) key nonce (omega (arith, ok .packHolds)) in
     (omega (arith, e, p .pack), omega (arith, p .pack, ok .packSmall))

@@ -23,6 +23,9 @@ use Rattle.motorist.proofs.Xors.{length-xors}
 use Rattle.plan.specs.Cut.{fromBy, cutBy, Fits, stepped, eomAt}
 use Rattle.plan.specs.declared.Cut.{Cut}
 
+pub from-none : (rs n : ℕ) → n ≡ 0 → 0 ≡ fromBy rs n
+from-none rs n e = rw e refl
+
 pub from-some : (rs n : ℕ) → (n ≡ 0 → ⊥) → rs ≡ fromBy rs n
 from-some rs zero h = absurd (h refl)
 from-some rs (suc n) h = refl
@@ -119,15 +122,15 @@ module _ (b c lane : ℕ) (ok : Sound (solo b lane c)) (w : ℕ) where
 
       -- n blocks are done, the state is s and the output holds d; k is the next
       pub record Walked (s d : Bytes) (n : ℕ) (k : Cut) : Type 0 where
-        pub low : k .at < textRate one
-        pub is : k ≡ next (k .at) (k .text) (length t) (k .meta) (length m)
+        pub low : k .at .0 < textRate one
+        pub is : k ≡ next (k .at .0) (k .text .0) (length t) (k .meta .0) (length m)
         pub room : Fits one w (length t) (length m) (length d) k
-        pub few : n ≤ k .text + k .meta
+        pub few : n ≤ k .text .0 + k .meta .0
         pub long : length d ≡ length d₀
-        pub tail : drop (k .text) d ≡ drop (k .text) d₀
-        pub states : left s (k .at) (k .text) (k .meta) .states ≡ whole .states
-        pub output : take (k .text) d ++ left s (k .at) (k .text) (k .meta) .output ≡ whole .output
-        pub count : n + length (left s (k .at) (k .text) (k .meta) .blocks) ≡ length (whole .blocks)
+        pub tail : drop (k .text .0) d ≡ drop (k .text .0) d₀
+        pub states : left s (k .at .0) (k .text .0) (k .meta .0) .states ≡ whole .states
+        pub output : take (k .text .0) d ++ left s (k .at .0) (k .text .0) (k .meta .0) .output ≡ whole .output
+        pub count : n + length (left s (k .at .0) (k .text .0) (k .meta .0) .blocks) ≡ length (whole .blocks)
 
       -- all n blocks are done, the state is s and the output holds d
       pub record Done (s d : Bytes) (n : ℕ) : Type 0 where
@@ -163,7 +166,7 @@ module _ (b c lane : ℕ) (ok : Sound (solo b lane c)) (w : ℕ) where
 -- ---- one block more of a walk
 -- so many blocks may still be to do, of t bytes of text and m of metadata
 abbrev pub ahead : (t m : ℕ) → Bool → Cut → ℕ
-ahead t m true k = suc ((t + m) - (k .text + k .meta))
+ahead t m true k = suc ((t + m) - (k .text .0 + k .meta .0))
 ahead t m false k = 0
 
 module _ {b c lane : ℕ} {ok : Sound (solo b lane c)} {w : ℕ} {f : Bytes → Bytes} {decrypt : Bool}
@@ -173,110 +176,110 @@ module _ {b c lane : ℕ} {ok : Sound (solo b lane c)} {w : ℕ} {f : Bytes → 
   here = solo b lane c
 
   abbrev after : Cut
-  after = next b c lane ok w 0 (k .textend) (length t) (k .metaend) (length m)
+  after = next b c lane ok w 0 (k .textend .0) (length t) (k .metaend .0) (length m)
 
   -- what the block takes, by the instance's rules
   abbrev X : ℕ
-  X = k .textend - k .text
+  X = k .textend .0 - k .text .0
 
   abbrev Y : ℕ
-  Y = k .metaend - k .meta
+  Y = k .metaend .0 - k .meta .0
 
-  text-is : X ≡ textFit here (k .at) (length (drop (k .text) t))
+  text-is : X ≡ textFit here (k .at .0) (length (drop (k .text .0) t))
   text-is =
       let r = walked .room in
-      let q : k .textend ≡ k .text + min (textRate here - k .at) (length t - k .text) = ap (λ (z : Cut). z .textend) (walked .is) in
+      let q : k .textend .0 ≡ k .text .0 + min (textRate here - k .at .0) (length t - k .text .0) = ap (λ (z : Cut). z .textend .0) (walked .is) in
       rw length-drop (omega (arith, q))
 
-  from-is : k .from ≡ injectStart here (length (drop (k .text) t))
-  from-is = rw length-drop (ap (λ (z : Cut). z .from) (walked .is) ∙ start-is here (length t - k .text))
+  from-is : k .from .0 ≡ injectStart here (length (drop (k .text .0) t))
+  from-is = rw length-drop (ap (λ (z : Cut). z .from .0) (walked .is) ∙ start-is here (length t - k .text .0))
 
-  meta-is : Y ≡ metaFit here (k .from) (length (drop (k .meta) m))
+  meta-is : Y ≡ metaFit here (k .from .0) (length (drop (k .meta .0) m))
   meta-is =
-      let q : k .metaend ≡ k .meta + min (fullRate here - fromBy (textRate here) (length t - k .text)) (length m - k .meta) = ap (λ (z : Cut). z .metaend) (walked .is) in
-      let g : k .from ≡ fromBy (textRate here) (length t - k .text) = ap (λ (z : Cut). z .from) (walked .is) in
+      let q : k .metaend .0 ≡ k .meta .0 + min (fullRate here - fromBy (textRate here) (length t - k .text .0)) (length m - k .meta .0) = ap (λ (z : Cut). z .metaend .0) (walked .is) in
+      let g : k .from .0 ≡ fromBy (textRate here) (length t - k .text .0) = ap (λ (z : Cut). z .from .0) (walked .is) in
       rw (length-drop, g) (omega (arith, q))
 
   end : (a z : ℕ) → a ≤ z → a + (z - a) ≡ z
   end a z h = omega arith
 
   -- the bytes ys came back in the place of the block's stretch of the output
-  module _ (ys : Bytes) (ey : ys ≡ mask s (k .at) (take X (drop (k .text) t))) where
+  module _ (ys : Bytes) (ey : ys ≡ mask s (k .at .0) (take X (drop (k .text .0) t))) where
     ys-length : length ys ≡ X
     ys-length =
         let r = walked .room in
-        ap length ey ∙ length-xors (take X (drop (k .text) t)) (drop (k .at) s) ∙ length-take-le X (drop (k .text) t) (rw length-drop (omega (arith, r .in-text)))
+        ap length ey ∙ length-xors (take X (drop (k .text .0) t)) (drop (k .at .0) s) ∙ length-take-le X (drop (k .text .0) t) (rw length-drop (omega (arith, r .in-text)))
 
-    in-d : k .text + X ≤ length d
+    in-d : k .text .0 + X ≤ length d
     in-d = let r = walked .room in omega (arith, r .text-order, r .in-out)
 
     abbrev pub back : Bytes
-    back = take (k .text) d ++ (ys ++ drop X (drop (k .text) d))
+    back = take (k .text .0) d ++ (ys ++ drop X (drop (k .text .0) d))
 
-    back-take : take (k .textend) back ≡ take (k .text) d ++ ys
-    back-take = rw (end (k .text) (k .textend) (walked .room .text-order)) at (take-back d (k .text) X ys in-d ys-length)
+    back-take : take (k .textend .0) back ≡ take (k .text .0) d ++ ys
+    back-take = rw (end (k .text .0) (k .textend .0) (walked .room .text-order)) at (take-back d (k .text .0) X ys in-d ys-length)
 
-    back-drop : drop (k .textend) back ≡ drop (k .textend) d
-    back-drop = rw (end (k .text) (k .textend) (walked .room .text-order)) at (drop-back d (k .text) X ys in-d ys-length)
+    back-drop : drop (k .textend .0) back ≡ drop (k .textend .0) d
+    back-drop = rw (end (k .text .0) (k .textend .0) (walked .room .text-order)) at (drop-back d (k .text .0) X ys in-d ys-length)
 
-    tail-drop : drop (k .textend) d ≡ drop (k .textend) d₀
+    tail-drop : drop (k .textend .0) d ≡ drop (k .textend .0) d₀
     tail-drop =
-        let q : k .text + X ≡ k .textend = end (k .text) (k .textend) (walked .room .text-order) in
-        rw q at (sym (drop-drop X (k .text) d) ∙ ap (drop X) (walked .tail) ∙ drop-drop X (k .text) d₀)
+        let q : k .text .0 + X ≡ k .textend .0 = end (k .text .0) (k .textend .0) (walked .room .text-order) in
+        rw q at (sym (drop-drop X (k .text .0) d) ∙ ap (drop X) (walked .tail) ∙ drop-drop X (k .text .0) d₀)
 
     drop-end : (l : Bytes) (a z : ℕ) → a ≤ z → drop (z - a) (drop a l) ≡ drop z l
     drop-end l a z h = rw (drop-drop (z - a) a l, end a z h) refl
 
     -- what the block leaves
-    more-left : (k .textend < length t) ⊎ (k .metaend < length m) → (X < length (drop (k .text) t)) ⊎ (Y < length (drop (k .meta) m))
+    more-left : (k .textend .0 < length t) ⊎ (k .metaend .0 < length m) → (X < length (drop (k .text .0) t)) ⊎ (Y < length (drop (k .meta .0) m))
     more-left (inl h) = inl (rw length-drop (omega (arith, walked .room .text-order)))
     more-left (inr h) = inr (rw length-drop (omega (arith, walked .room .meta-order)))
 
-    grows : (k .textend < length t) ⊎ (k .metaend < length m) → 0 < X + Y
-    grows h = takes-some b c lane ok w (k .at) (length (drop (k .text) t)) (length (drop (k .meta) m)) X (k .from) Y (walked .low) text-is from-is meta-is (more-left h)
+    grows : (k .textend .0 < length t) ⊎ (k .metaend .0 < length m) → 0 < X + Y
+    grows h = takes-some b c lane ok w (k .at .0) (length (drop (k .text .0) t)) (length (drop (k .meta .0) m)) X (k .from .0) Y (walked .low) text-is from-is meta-is (more-left h)
 
     -- so the walk ends
-    walked-less : (k .textend < length t) ⊎ (k .metaend < length m)
-        → (length t + length m) - (k .textend + k .metaend) < (length t + length m) - (k .text + k .meta)
+    walked-less : (k .textend .0 < length t) ⊎ (k .metaend .0 < length m)
+        → (length t + length m) - (k .textend .0 + k .metaend .0) < (length t + length m) - (k .text .0 + k .meta .0)
     walked-less h = let r = walked .room in omega (arith, grows h, r .in-text, r .in-meta, r .text-order, r .meta-order)
 
     module _ (lz : 0 % w ≡ 0) (lr : textRate here % w ≡ 0) (out : length t ≤ length d₀) where
       -- one more block, and not the last
-      walked-more : (s′ : Bytes) → (k .textend < length t) ⊎ (k .metaend < length m)
-          → s′ ≡ stepped here f decrypt s (k .at) (take X (drop (k .text) t)) (k .from) (take Y (drop (k .meta) m)) 0
+      walked-more : (s′ : Bytes) → (k .textend .0 < length t) ⊎ (k .metaend .0 < length m)
+          → s′ ≡ stepped here f decrypt s (k .at .0) (take X (drop (k .text .0) t)) (k .from .0) (take Y (drop (k .meta .0) m)) 0
           → Walked b c lane ok w f decrypt s₀ at₀ t m e d₀ s′ back (n + 1) after
       walked-more s′ h es =
           let r = walked .room in
-          let g = block-more b c lane ok w f decrypt s (k .at) (walked .low) (drop (k .text) t) (drop (k .meta) m) e X (k .from) Y text-is from-is meta-is (more-left h) in
-          let g′ = rw (← es, ← ey, drop-end t (k .text) (k .textend) (r .text-order), drop-end m (k .meta) (k .metaend) (r .meta-order)) at g in
-          let long : length back ≡ length d₀ = length-back d (k .text) X ys in-d ys-length ∙ walked .long in
+          let g = block-more b c lane ok w f decrypt s (k .at .0) (walked .low) (drop (k .text .0) t) (drop (k .meta .0) m) e X (k .from .0) Y text-is from-is meta-is (more-left h) in
+          let g′ = rw (← es, ← ey, drop-end t (k .text .0) (k .textend .0) (r .text-order), drop-end m (k .meta .0) (k .metaend .0) (r .meta-order)) at g in
+          let long : length back ≡ length d₀ = length-back d (k .text .0) X ys in-d ys-length ∙ walked .long in
           record {
             low = omega (arith, walked .low);
             is = refl;
-            room = fits b c lane ok w 0 (k .textend) (length t) (k .metaend) (length m) (length back) (omega (arith, walked .low)) (r .in-text) (r .in-meta) (rw long out) lz lz lr;
+            room = fits b c lane ok w 0 (k .textend .0) (length t) (k .metaend .0) (length m) (length back) (omega (arith, walked .low)) (r .in-text) (r .in-meta) (rw long out) lz lz lr;
             few = omega (arith, walked .few, grows h, r .text-order, r .meta-order);
             long = long;
             tail = back-drop ∙ tail-drop;
             states = sym (ap (λ (z : Ride). z .states) g′) ∙ walked .states;
-            output = rw (back-take, append-assoc) (ap (λ (z : Ride). take (k .text) d ++ z .output) (sym g′) ∙ walked .output);
+            output = rw (back-take, append-assoc) (ap (λ (z : Ride). take (k .text .0) d ++ z .output) (sym g′) ∙ walked .output);
             count = omega (arith, ap (λ (z : Ride). length (z .blocks)) g′, walked .count);
           }
 
       -- the last
-      walked-last : (s′ : Bytes) → (length t ≤ k .textend) × (length m ≤ k .metaend)
-          → s′ ≡ stepped here f decrypt s (k .at) (take X (drop (k .text) t)) (k .from) (take Y (drop (k .meta) m)) e
+      walked-last : (s′ : Bytes) → (length t ≤ k .textend .0) × (length m ≤ k .metaend .0)
+          → s′ ≡ stepped here f decrypt s (k .at .0) (take X (drop (k .text .0) t)) (k .from .0) (take Y (drop (k .meta .0) m)) e
           → Done b c lane ok w f decrypt s₀ at₀ t m e d₀ s′ back (n + 1)
       walked-last s′ h es =
           let r = walked .room in
-          let all : k .textend ≡ length t = le-antisymm (r .in-text) (h .0) in
-          let g = block-last b c lane ok w f decrypt s (k .at) (walked .low) (drop (k .text) t) (drop (k .meta) m) e X (k .from) Y text-is from-is meta-is
+          let all : k .textend .0 ≡ length t = le-antisymm (r .in-text) (h .0) in
+          let g = block-last b c lane ok w f decrypt s (k .at .0) (walked .low) (drop (k .text .0) t) (drop (k .meta .0) m) e X (k .from .0) Y text-is from-is meta-is
           (rw length-drop (omega (arith, h .0, r .text-order))) (rw length-drop (omega (arith, h .1, r .meta-order))) in
           let g′ = rw (← es, ← ey) at g in
-          let o : take (k .text) d ++ ys ≡ group here f decrypt (s₀ ∷ []) at₀ t m (e ∷ []) .output = ap (λ (z : Ride). take (k .text) d ++ z .output) (sym g′) ∙ walked .output in
-          let q : back ≡ (take (k .text) d ++ ys) ++ drop (k .textend) d = rw (drop-end d (k .text) (k .textend) (r .text-order), append-assoc) refl in
+          let o : take (k .text .0) d ++ ys ≡ group here f decrypt (s₀ ∷ []) at₀ t m (e ∷ []) .output = ap (λ (z : Ride). take (k .text .0) d ++ z .output) (sym g′) ∙ walked .output in
+          let q : back ≡ (take (k .text .0) d ++ ys) ++ drop (k .textend .0) d = rw (drop-end d (k .text .0) (k .textend .0) (r .text-order), append-assoc) refl in
           record {
             few = omega (arith, walked .few, r .text-order, r .in-text, r .meta-order, r .in-meta);
-            long = length-back d (k .text) X ys in-d ys-length ∙ walked .long;
+            long = length-back d (k .text .0) X ys in-d ys-length ∙ walked .long;
             states = sym (ap (λ (z : Ride). z .states) g′) ∙ walked .states;
             output = q ∙ rw (o, tail-drop, all) refl;
             count = omega (arith, ap (λ (z : Ride). length (z .blocks)) g′, walked .count);
@@ -284,23 +287,23 @@ module _ {b c lane : ℕ} {ok : Sound (solo b lane c)} {w : ℕ} {f : Bytes → 
 
       -- one more block, the last or not: the walk goes on where the test of the loop says so
       abbrev test : Bool
-      test = ltb (k .textend) (length t) || ltb (k .metaend) (length m)
+      test = ltb (k .textend .0) (length t) || ltb (k .metaend .0) (length m)
 
       pub stage-next : (s′ : Bytes) (more : Bool) → more ≡ test
-          → s′ ≡ stepped here f decrypt s (k .at) (take X (drop (k .text) t)) (k .from) (take Y (drop (k .meta) m)) (eomAt more e)
+          → s′ ≡ stepped here f decrypt s (k .at .0) (take X (drop (k .text .0) t)) (k .from .0) (take Y (drop (k .meta .0) m)) (eomAt more e)
           → Stage b c lane ok w f decrypt s₀ at₀ t m e d₀ more s′ back (n + 1) after
       stage-next s′ true h es =
           record {
-            going = λ g. walked-more s′ (goes-on (k .textend) (length t) (k .metaend) (length m) (sym h)) es;
+            going = λ g. walked-more s′ (goes-on (k .textend .0) (length t) (k .metaend .0) (length m) (sym h)) es;
             done = λ g. never g;
           }
       stage-next s′ false h es =
           record {
             going = λ g. never (sym g);
-            done = λ g. walked-last s′ (stops (k .textend) (length t) (k .metaend) (length m) (sym h)) es;
+            done = λ g. walked-last s′ (stops (k .textend .0) (length t) (k .metaend .0) (length m) (sym h)) es;
           }
 
       -- and fewer blocks are ahead
       pub fewer-ahead : (more : Bool) → more ≡ test → ahead (length t) (length m) more after < ahead (length t) (length m) true k
-      fewer-ahead true h = omega (arith, walked-less (goes-on (k .textend) (length t) (k .metaend) (length m) (sym h)))
+      fewer-ahead true h = omega (arith, walked-less (goes-on (k .textend .0) (length t) (k .metaend .0) (length m) (sym h)))
       fewer-ahead false h = omega arith

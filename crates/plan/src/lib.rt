@@ -10,64 +10,80 @@ ghost use Rattle.plan.specs.Opening.{opening};
 ghost use Rattle.motorist.specs.Piston.{cryptEnd, eom};
 ghost use Rattle.motorist.specs.Motorist.{taken};
 ghost use Rattle.motorist.specs.Instance.{tagLength};
+use rates::ByteCount;
 use rates::Rates;
 
 // The block's text is the message's from `text` up to `textend`, from byte `at` of the block on; metadata likewise, from `from` on.
 pub struct Cut {
-    pub at: usize,
-    pub text: usize,
-    pub textend: usize,
-    pub from: usize,
-    pub meta: usize,
-    pub metaend: usize,
+    pub at: ByteCount,
+    pub text: ByteCount,
+    pub textend: ByteCount,
+    pub from: ByteCount,
+    pub meta: ByteCount,
+    pub metaend: ByteCount,
 }
 
 // Where metadata starts beside so much text that is left.
-fn inject_start(rates: Rates, left: usize) -> usize
-    ensures { λ r. ⌜ r ≡ fromBy (rates .text .0) left ⌝ }
+fn inject_start(rates: Rates, left: ByteCount) -> ByteCount
+    ensures { λ r. ⌜ r .0 ≡ fromBy (rates .text .0) (left .0) ⌝ }
 {
-    if left == 0 { 0 } else { rates.text.0 }
+    let beside = rates.text;
+    if rates::is_none(left) {
+        ByteCount(0)
+    } else {
+        beside
+    }
 }
 
 // The block after `text` bytes of t and `meta` bytes of m are done: it takes as much as fits.
-fn cut_at(rates: Rates, at: usize, text: usize, t: usize, meta: usize, m: usize) -> Cut
-    requires { ⌜ (at ≤ rates .text .0) × (rates .text .0 ≤ rates .full .0) × (text ≤ t) × (meta ≤ m) ⌝ }
-    ensures { λ r. ⌜ r ≡ cutBy (rates .text .0) (rates .full .0) at text t meta m ⌝ }
+fn cut_at(
+    rates: Rates,
+    at: ByteCount,
+    text: ByteCount,
+    t: ByteCount,
+    meta: ByteCount,
+    m: ByteCount,
+) -> Cut
+    requires { ⌜ (at .0 ≤ rates .text .0) × (rates .text .0 ≤ rates .full .0) × (text .0 ≤ t .0) × (meta .0 ≤ m .0) ⌝ }
+    ensures { λ r. ⌜ r ≡ cutBy (rates .text .0) (rates .full .0) (at .0) (text .0) (t .0) (meta .0) (m .0) ⌝ }
 {
-    let from = inject_start(rates, t - text);
-    let k = slices::least(rates.text.0 - at, t - text);
-    let q = slices::least(rates.full.0 - from, m - meta);
+    let left = rates::rest(t, text);
+    let from = inject_start(rates, left);
+    let k = rates::lesser(rates::rest(rates.text, at), left);
+    let q = rates::lesser(rates::rest(rates.full, from), rates::rest(m, meta));
+    let textend = rates::sum(text, k);
+    let metaend = rates::sum(meta, q);
     Cut {
         at,
         text,
-        textend: text + k,
+        textend,
         from,
         meta,
-        metaend: meta + q,
+        metaend,
     }
 }
 
 // The first block of a message of t bytes of text, which starts at byte `at` of it, and m of metadata.
-pub fn first_cut(rates: Rates, at: usize, t: usize, m: usize) -> Cut
-    requires { ⌜ (at ≤ rates .text .0) × (rates .text .0 ≤ rates .full .0) ⌝ }
-    ensures { λ r. ⌜ r ≡ cutBy (rates .text .0) (rates .full .0) at 0 t 0 m ⌝ }
+pub fn first_cut(rates: Rates, at: ByteCount, t: ByteCount, m: ByteCount) -> Cut
+    requires { ⌜ (at .0 ≤ rates .text .0) × (rates .text .0 ≤ rates .full .0) ⌝ }
+    ensures { λ r. ⌜ r ≡ cutBy (rates .text .0) (rates .full .0) (at .0) 0 (t .0) 0 (m .0) ⌝ }
 {
-    cut_at(rates, at, 0, t, 0, m)
+    cut_at(rates, at, ByteCount(0), t, ByteCount(0), m)
 }
 
 // The block after this one.
-pub fn next_cut(rates: Rates, cut: Cut, t: usize, m: usize) -> Cut
-    requires { ⌜ (rates .text .0 ≤ rates .full .0) × (cut .textend ≤ t) × (cut .metaend ≤ m) ⌝ }
-    ensures { λ r. ⌜ r ≡ cutBy (rates .text .0) (rates .full .0) 0 (cut .textend) t (cut .metaend) m ⌝ }
+pub fn next_cut(rates: Rates, cut: Cut, t: ByteCount, m: ByteCount) -> Cut
+    requires { ⌜ (rates .text .0 ≤ rates .full .0) × (cut .textend .0 ≤ t .0) × (cut .metaend .0 ≤ m .0) ⌝ }
+    ensures { λ r. ⌜ r ≡ cutBy (rates .text .0) (rates .full .0) 0 (cut .textend .0) (t .0) (cut .metaend .0) (m .0) ⌝ }
 {
-    cut_at(rates, 0, cut.textend, t, cut.metaend, m)
+    cut_at(rates, ByteCount(0), cut.textend, t, cut.metaend, m)
 }
 
 // Whether a block after this one is left to do.
-pub fn more(cut: Cut, t: usize, m: usize) -> bool
-    ensures { λ r. ⌜ r ≡ (ltb (cut .textend) t || ltb (cut .metaend) m) ⌝ }
+pub fn more(cut: Cut, t: ByteCount, m: ByteCount) -> bool
+    ensures { λ r. ⌜ r ≡ (ltb (cut .textend .0) (t .0) || ltb (cut .metaend .0) (m .0)) ⌝ }
 {
-    (cut.textend < t) | (cut.metaend < m)
+    rates::below(cut.textend, t) | rates::below(cut.metaend, m)
 }
 
 // The EOM of a block in a group that ends with `eom`: 0 where a block after it is left to do.
@@ -78,11 +94,15 @@ pub fn eom_at(more: bool, eom: u8) -> u8
 }
 
 // One past the last of n bytes of text from `at` on; 0 if there is none.
-fn crypt_end(at: usize, n: usize) -> usize
-    requires { ⌜ at + n < 256 ⌝ }
-    ensures { λ r. ⌜ (r ≡ cryptEnd at n) × (r < 256) ⌝ }
+fn crypt_end(at: ByteCount, n: ByteCount) -> ByteCount
+    requires { ⌜ at .0 + n .0 < 256 ⌝ }
+    ensures { λ r. ⌜ (r .0 ≡ cryptEnd (at .0) (n .0)) × (r .0 < 256) ⌝ }
 {
-    if n == 0 { 0 } else { at + n }
+    if rates::is_none(n) {
+        ByteCount(0)
+    } else {
+        rates::sum(at, n)
+    }
 }
 
 // The four offset bytes of a block: EOM, crypt end, inject start, inject end.
@@ -91,43 +111,51 @@ pub fn offsets(cut: Cut, eom: u8) -> [u8; 4]
     ensures { λ r. ⌜ r ≡ offsetBytes cut eom ⌝ }
 {
     let from = cut.from;
-    let end = crypt_end(cut.at, cut.textend - cut.text);
-    let stop = from + (cut.metaend - cut.meta);
-    [eom, end as u8, from as u8, stop as u8]
+    let end = crypt_end(cut.at, rates::rest(cut.textend, cut.text));
+    let stop = rates::sum(from, rates::rest(cut.metaend, cut.meta));
+    [
+        eom,
+        rates::as_byte(end),
+        rates::as_byte(from),
+        rates::as_byte(stop),
+    ]
 }
 
 // Byte i of what a start injects: key pack, nonce, the number of Pistons (1) and the index of this one (0).
-fn opening_byte(pack: usize, key: &[u8], nonce: &[u8], i: usize) -> u8
-    requires { ⌜ (pack < 256) × (length (now key) + 2 ≤ pack) × (length (now nonce) ≤ 1024) ⌝ }
-    ensures { λ r. ⌜ r ≡ getD (opening pack (now (key .entry)) (now (nonce .entry))) i 0 ⌝ }
+fn opening_byte(pack: ByteCount, key: &[u8], nonce: &[u8], i: ByteCount) -> u8
+    requires { ⌜ (pack .0 < 256) × (length (now key) + 2 ≤ pack .0) × (length (now nonce) ≤ 1024) ⌝ }
+    ensures { λ r. ⌜ r ≡ getD (opening (pack .0) (now (key .entry)) (now (nonce .entry))) (i .0) 0 ⌝ }
 {
-    if i == 0 {
-        return pack as u8;
+    // both meet indices and the lengths of slices here
+    let behind = pack.0;
+    let at = i.0;
+    if at == 0 {
+        return rates::as_byte(pack);
     }
-    if i <= key.len() {
-        return key[i - 1];
+    if at <= key.len() {
+        return key[at - 1];
     }
-    if i == key.len() + 1 {
+    if at == key.len() + 1 {
         return 1;
     }
-    if i < pack {
+    if at < behind {
         return 0;
     }
-    if i < pack + nonce.len() {
-        return nonce[i - pack];
+    if at < behind + nonce.len() {
+        return nonce[at - behind];
     }
-    if i == pack + nonce.len() { 1 } else { 0 }
+    if at == behind + nonce.len() { 1 } else { 0 }
 }
 
 // The stretch of what a start injects that begins at byte `from` and is as long as out.
-pub fn opening_part(pack: usize, key: &[u8], nonce: &[u8], from: usize, out: &mut [u8])
-    requires { ⌜ (pack < 256) × (length (now key) + 2 ≤ pack) × (length (now nonce) ≤ 1024) ⌝ }
-    requires { ⌜ from + length (now out) ≤ length (opening pack (now key) (now nonce)) ⌝ }
-    ensures { λ r. ⌜ now (out .exit) ≡ take (length (now (out .entry))) (drop from (opening pack (now (key .entry)) (now (nonce .entry)))) ⌝ }
+pub fn opening_part(pack: ByteCount, key: &[u8], nonce: &[u8], from: ByteCount, out: &mut [u8])
+    requires { ⌜ (pack .0 < 256) × (length (now key) + 2 ≤ pack .0) × (length (now nonce) ≤ 1024) ⌝ }
+    requires { ⌜ from .0 + length (now out) ≤ length (opening (pack .0) (now key) (now nonce)) ⌝ }
+    ensures { λ r. ⌜ now (out .exit) ≡ take (length (now (out .entry))) (drop (from .0) (opening (pack .0) (now (key .entry)) (now (nonce .entry)))) ⌝ }
 {
     let mut j = 0;
     while j < out.len() {
-        out[j] = opening_byte(pack, key, nonce, from + j);
+        out[j] = opening_byte(pack, key, nonce, rates::sum(from, ByteCount(j)));
         j += 1;
     }
 }
@@ -137,7 +165,7 @@ pub fn eom_tag(rates: Rates) -> u8
     requires { ⌜ rates .tag .0 ≡ tagLength ⌝ }
     ensures { λ r. ⌜ r ≡ tagLength ⌝ }
 {
-    rates.tag.0 as u8
+    rates::as_byte(rates.tag)
 }
 
 pub fn eom_of(rates: Rates, tagged: bool) -> u8

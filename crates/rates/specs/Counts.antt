@@ -1,7 +1,17 @@
--- What the code's rates are to be.
+-- A count of the code's, and what its rates are to be.
 use mathlib.Core.Path.{_≡_}
+use Prim.Native.Nat.{ℕ}
 use Rattle.motorist.specs.Instance.{Instance, textRate, fullRate, packLength, chainLength, tagLength}
+use Rattle.rates.specs.declared.bytes.ByteCount.{ByteCount}
 use Rattle.rates.specs.declared.Rates.{Rates}
+
+-- n bytes
+abbrev pub counted : ℕ → ByteCount
+counted n = record { 0 = n }
+
+-- the bytes of a chaining value, as the code's arrays have them
+abbrev pub chainBytes : ℕ
+chainBytes = 32
 
 -- the rates r are those of the instance i
 pub record RatesOf (i : Instance) (r : Rates) : Type 0 where

@@ -1,14 +1,27 @@
 // The rates of an instance, in code: derived from width, lane and capacity, which are counted in bits, by document 003's rule.
-// Serves the block code, which takes every such number from here; no public call.
-ghost use mathlib.Core.Path.{_≡_};
-ghost use Prim.Native.Nat.{_-_, _*_, _/_, _<_, _≤_, max};
-ghost use Rattle.motorist.specs.Instance.{solo, lake, river, inBytes, roundUp};
+// Serves the block code, which takes every such number from here, and the counts of its own; no public call.
+ghost use Prim.Native.Nat.{_<_, _≤_};
+ghost use Rattle.motorist.specs.Instance.{solo, lake, river};
 ghost use Rattle.rates.specs.Counts.{RatesOf};
 
-// A count of bits and a count of bytes are two types, so that neither can stand for the other.
-pub struct BitCount(pub usize);
+mod bits;
+mod bytes;
 
-pub struct ByteCount(pub usize);
+use bits::BitCount;
+use bits::in_bytes;
+use bits::lanes_around;
+use bits::lanes_within;
+use bits::larger;
+use bits::left_of;
+pub use bytes::ByteCount;
+pub use bytes::CHAIN_BYTES;
+pub use bytes::as_byte;
+pub use bytes::below;
+pub use bytes::is_none;
+pub use bytes::length_of;
+pub use bytes::lesser;
+pub use bytes::rest;
+pub use bytes::sum;
 
 // What the block code needs to know of an instance.
 pub struct Rates {
@@ -17,48 +30,6 @@ pub struct Rates {
     pub pack: ByteCount,
     pub chain: ByteCount,
     pub tag: ByteCount,
-}
-
-// The one place where a count of bits becomes a count of bytes.
-fn in_bytes(n: BitCount) -> ByteCount
-    ensures { λ r. ⌜ r .0 ≡ inBytes (n .0) ⌝ }
-{
-    ByteCount(n.0 / 8)
-}
-
-// The bits that are left of n where k are kept back.
-fn left_of(n: BitCount, k: BitCount) -> BitCount
-    ensures { λ r. ⌜ r .0 ≡ n .0 - k .0 ⌝ }
-{
-    if n.0 < k.0 {
-        BitCount(0)
-    } else {
-        BitCount(n.0 - k.0)
-    }
-}
-
-// The larger of two counts.
-fn larger(n: BitCount, k: BitCount) -> BitCount
-    ensures { λ r. ⌜ r .0 ≡ max (n .0) (k .0) ⌝ }
-{
-    if n.0 < k.0 { k } else { n }
-}
-
-// The largest multiple of a lane up to n.
-fn lanes_within(n: BitCount, lane: BitCount) -> BitCount
-    requires { ⌜ 0 < lane .0 ⌝ }
-    ensures { λ r. ⌜ r .0 ≡ n .0 / lane .0 * lane .0 ⌝ }
-{
-    BitCount(n.0 / lane.0 * lane.0)
-}
-
-// The smallest multiple of a lane from n on. No count of bits here is above 1600, the largest width there is.
-fn lanes_around(n: BitCount, lane: BitCount) -> BitCount
-    requires { ⌜ (0 < lane .0) × (lane .0 ≤ 1600) × (n .0 ≤ 1600) ⌝ }
-    ensures { λ r. ⌜ r .0 ≡ roundUp (n .0) (lane .0) * lane .0 ⌝ }
-{
-    let rounded = BitCount(n.0 + (lane.0 - 1));
-    lanes_within(rounded, lane)
 }
 
 // The rates of the instance with that width, lane and capacity, by document 003's rule: 32 bits at least are kept back for the offset bytes,

@@ -1,12 +1,17 @@
 // The session record in hand, in one form for both instances, and each public call on it. Only here do Lake and River part.
+use crate::state::State;
+use crate::state::lake_bytes;
+use crate::state::lake_lanes;
+use crate::state::river_bytes;
+use crate::state::river_lanes;
 use table::Answer;
 use table::Phase;
 use table::StartTag;
 
-// The lanes as bytes, little-endian: 200 for Lake; for River the first 100, and zeros.
+// The lanes are in hand as bytes.
 pub struct Hand {
     pub river: bool,
-    pub state: [u8; 200],
+    pub state: State,
     pub phase: Phase,
     pub at: usize,
 }
@@ -23,35 +28,9 @@ pub struct Rounds {
     pub hand: Hand,
 }
 
-fn lanes64_of(state: [u8; 200]) -> [u64; 25] {
-    let mut lanes = lanes64::zero();
-    lanes64::absorb(&mut lanes, 0, &state);
-    lanes
-}
-
-fn lanes32_of(state: [u8; 200]) -> [u32; 25] {
-    let mut lanes = lanes32::zero();
-    lanes32::absorb(&mut lanes, 0, &state[0..100]);
-    lanes
-}
-
-fn bytes64(lanes: [u64; 25]) -> [u8; 200] {
-    let zeros = [0u8; 200];
-    let mut state = [0u8; 200];
-    lanes64::stream(lanes, 0, &zeros, &mut state);
-    state
-}
-
-fn bytes32(lanes: [u32; 25]) -> [u8; 200] {
-    let zeros = [0u8; 100];
-    let mut state = [0u8; 200];
-    lanes32::stream(lanes, 0, &zeros, &mut state[..100]);
-    state
-}
-
 fn to_lake(h: Hand) -> lake::Session {
     let state = h.state;
-    let lanes = lanes64_of(state);
+    let lanes = lake_lanes(state);
     let phase = h.phase;
     lake::Session {
         lanes,
@@ -62,7 +41,7 @@ fn to_lake(h: Hand) -> lake::Session {
 
 fn to_river(h: Hand) -> river::Session {
     let state = h.state;
-    let lanes = lanes32_of(state);
+    let lanes = river_lanes(state);
     let phase = h.phase;
     river::Session {
         lanes,
@@ -73,7 +52,7 @@ fn to_river(h: Hand) -> river::Session {
 
 fn of_lake(s: lake::Session) -> Hand {
     let lanes = s.lanes;
-    let state = bytes64(lanes);
+    let state = lake_bytes(lanes);
     let phase = s.phase;
     Hand {
         river: false,
@@ -85,7 +64,7 @@ fn of_lake(s: lake::Session) -> Hand {
 
 fn of_river(s: river::Session) -> Hand {
     let lanes = s.lanes;
-    let state = bytes32(lanes);
+    let state = river_bytes(lanes);
     let phase = s.phase;
     Hand {
         river: true,
@@ -151,7 +130,7 @@ pub fn unwrap(h: Hand, text: &[u8], meta: &[u8], tag: &[u8], forget: bool, out: 
     lake_turn(lake::unwrap(to_lake(h), text, meta, tag, forget, out))
 }
 
-fn with_state(h: Hand, state: [u8; 200]) -> Hand {
+fn with_state(h: Hand, state: State) -> Hand {
     let phase = h.phase;
     Hand {
         river: h.river,
@@ -164,17 +143,17 @@ fn with_state(h: Hand, state: [u8; 200]) -> Hand {
 pub fn permute(h: Hand, rounds: usize) -> Rounds {
     let state = h.state;
     if h.river {
-        let p = keccak32::permute(lanes32_of(state), rounds);
+        let p = keccak32::permute(river_lanes(state), rounds);
         let lanes = p.lanes;
-        let hand = with_state(h, bytes32(lanes));
+        let hand = with_state(h, river_bytes(lanes));
         return Rounds {
             rounds: p.rounds,
             hand,
         };
     }
-    let p = keccak64::permute(lanes64_of(state), rounds);
+    let p = keccak64::permute(lake_lanes(state), rounds);
     let lanes = p.lanes;
-    let hand = with_state(h, bytes64(lanes));
+    let hand = with_state(h, lake_bytes(lanes));
     Rounds {
         rounds: p.rounds,
         hand,

@@ -1,6 +1,8 @@
 // Runs sessions in the vector layout (docs/VECTORS.md) through the public calls of Lake and River and the public permutation,
 // and says how many calls agreed in everything that the file tells, and how many differed.
+mod around;
 mod hand;
+mod state;
 mod steps;
 
 ghost use mathlib.Core.Path.{_≡_};
@@ -60,16 +62,11 @@ fn called(t: Tally, kind: usize, s: Step) -> Progress {
     Progress { hand, tally }
 }
 
-// end SESSIONS CALLS: where the totals are those counted here, the file has its end.
+// end SESSIONS CALLS: the totals are to be those counted here.
 fn ended(line: &[u8], hand: Hand, t: Tally) -> Progress {
     let sessions = told(line, begun(line), t.sessions);
     let calls = told(line, sessions, tally::calls(t));
-    let more = next_line(t, false);
-    if ends(line, calls) {
-        let tally = tally::ended(more);
-        return Progress { hand, tally };
-    }
-    Progress { hand, tally: more }
+    noted(hand, tally::ended(next_line(t, false)), ends(line, calls))
 }
 
 // One line, by its first letter.
@@ -126,17 +123,25 @@ const WRONG: usize = 1;
 
 const LATE: usize = 2;
 
-const UNSOUND: usize = 3;
+const WORDS: usize = 3;
 
-const TEAM: usize = 4;
+const UNSOUND: usize = 4;
+
+const TEAM: usize = 5;
+
+const RANDOM: usize = 6;
+
+const FILES: usize = 8;
 
 fn opened_file(which: usize) -> i32 {
     match which {
         SAMPLE => os::open_read(b"sample.txt"),
         WRONG => os::open_read(b"wrong.txt"),
         LATE => os::open_read(b"late.txt"),
+        WORDS => os::open_read(b"words.txt"),
         UNSOUND => os::open_read(b"unsound.txt"),
         TEAM => os::open_read(b"team.txt"),
+        RANDOM => os::open_read(b"random.txt"),
         _ => os::open_read(b"sessions.txt"),
     }
 }
@@ -174,8 +179,10 @@ fn tell(which: usize, size: usize, t: Tally) {
         SAMPLE => tally::total(b"vectors of the second program: ", t),
         WRONG => tally::total(b"the same with one wrong byte: ", t),
         LATE => tally::total(b"the last of 65,535 bytes wrong: ", t),
+        WORDS => tally::total(b"one wrong word in each line: ", t),
         UNSOUND => tally::total(b"lines outside the layout: ", t),
         TEAM => tell_team(size, t),
+        RANDOM => tally::total(b"random sessions: ", t),
         _ => tell_sessions(t),
     }
 }
@@ -188,7 +195,7 @@ fn report(which: usize, file: &mut [u8]) {
 
 fn all(file: &mut [u8]) {
     let mut which = SAMPLE;
-    while which < 6 {
+    while which < FILES {
         report(which, file);
         which += 1;
     }
@@ -203,5 +210,6 @@ fn file_room() -> [u8; 2000000]
 
 fn main() {
     let mut file = file_room();
+    around::tell();
     all(&mut file);
 }

@@ -1,13 +1,22 @@
 // The steps of a session: the words of a line are read, the call is made, and all that it answers and leaves is compared.
+ghost use Prim.Native.Nat.{_≤_};
+ghost use lib.ListN.{length};
 use crate::hand;
 use crate::hand::Hand;
 use crate::hand::Turn;
+use crate::state::LAKE_BYTES;
+use crate::state::RIVER_BYTES;
+use crate::state::State;
 use table::Phase;
 use table::StartTag;
 use vectors::compare::answer;
 use vectors::compare::bytes;
 use vectors::compare::count;
-use vectors::compare::room;
+use vectors::guard::BEFORE;
+use vectors::guard::TAG_ARRAY;
+use vectors::guard::kept;
+use vectors::guard::lent;
+use vectors::guard::output_array;
 use vectors::read::LARGEST;
 use vectors::read::Seen;
 use vectors::read::begun;
@@ -29,6 +38,15 @@ fn phase_of(n: usize) -> Phase {
     }
 }
 
+// The number of a phase, by this program's own reading too.
+fn number_of(phase: Phase) -> usize {
+    match phase {
+        Phase::Unstarted => 0,
+        Phase::Riding => 1,
+        Phase::Failed => 2,
+    }
+}
+
 fn use_of(n: usize) -> StartTag {
     match n {
         0 => StartTag::None,
@@ -38,9 +56,9 @@ fn use_of(n: usize) -> StartTag {
 }
 
 // The lanes in hand, as bytes.
-fn lanes(line: &[u8], seen: Seen, river: bool, state: [u8; 200]) -> Seen {
+fn lanes(line: &[u8], seen: Seen, river: bool, state: State) -> Seen {
     if river {
-        return bytes(line, seen, &state[0..100]);
+        return bytes(line, seen, &state[0..RIVER_BYTES]);
     }
     bytes(line, seen, &state)
 }
@@ -50,7 +68,7 @@ fn left(line: &[u8], seen: Seen, h: Hand) -> Step {
     let state = h.state;
     let phase = h.phase;
     let first = lanes(line, seen, h.river, state);
-    let second = count(line, first, table::phase_number(phase) as usize);
+    let second = count(line, first, number_of(phase));
     let at = count(line, second, h.at);
     Step {
         same: ends(line, at),
@@ -58,9 +76,18 @@ fn left(line: &[u8], seen: Seen, h: Hand) -> Step {
     }
 }
 
+// The same, where the bytes around a lent buffer must have stayed too.
+fn guarded(s: Step, around: bool) -> Step {
+    let hand = s.hand;
+    Step {
+        same: s.same & around,
+        hand,
+    }
+}
+
 // Whether so many bytes are all the lanes, or none.
 fn are_lanes(length: usize, river: bool) -> bool {
-    let all = if river { 100 } else { 200 };
+    let all = if river { RIVER_BYTES } else { LAKE_BYTES };
     (length == 0) | (length == all)
 }
 
@@ -109,22 +136,48 @@ fn started(
     left(line, tags, after)
 }
 
-// USE FORGET TAG: the choices, and the tag buffer that is lent.
+// TAG: the tag buffer that is lent out of `array`.
+fn start_lent(
+    line: &[u8],
+    seen: Seen,
+    h: Hand,
+    key: &[u8],
+    nonce: &[u8],
+    forget: bool,
+    choice: StartTag,
+    array: &mut [u8],
+) -> Step
+    requires { ⌜ 64 ≤ length (now array) ⌝ }
+{
+    let tag = lent(line, seen, array);
+    let end = BEFORE + tag.length;
+    let s = started(
+        line,
+        tag.seen,
+        h,
+        key,
+        nonce,
+        forget,
+        choice,
+        &mut array[BEFORE..end],
+    );
+    guarded(s, kept(array, BEFORE, end))
+}
+
+// USE FORGET: the choices.
 fn start_on(line: &[u8], seen: Seen, h: Hand, key: &[u8], nonce: &[u8]) -> Step {
-    let mut tag = [0u8; 32];
+    let mut array = [0u8; TAG_ARRAY];
     let choice = number(line, seen, 2);
     let forget = number(line, choice.seen, 1);
-    let lent = given(line, forget.seen, &mut tag);
-    let n = lent.length;
-    started(
+    start_lent(
         line,
-        lent.seen,
+        forget.seen,
         h,
         key,
         nonce,
         forget.value != 0,
         use_of(choice.value),
-        &mut tag[0..n],
+        &mut array,
     )
 }
 
@@ -183,7 +236,36 @@ fn sent(
     after(line, seen, t, out, tag)
 }
 
-// TAG: the tag buffer that is lent.
+// TAG: the tag buffer that is lent out of `array`.
+fn tag_lent(
+    line: &[u8],
+    seen: Seen,
+    h: Hand,
+    open: bool,
+    text: &[u8],
+    meta: &[u8],
+    forget: bool,
+    out: &mut [u8],
+    array: &mut [u8],
+) -> Step
+    requires { ⌜ 64 ≤ length (now array) ⌝ }
+{
+    let tag = lent(line, seen, array);
+    let end = BEFORE + tag.length;
+    let s = sent(
+        line,
+        tag.seen,
+        h,
+        open,
+        text,
+        meta,
+        forget,
+        out,
+        &mut array[BEFORE..end],
+    );
+    guarded(s, kept(array, BEFORE, end))
+}
+
 fn send_tag(
     line: &[u8],
     seen: Seen,
@@ -194,38 +276,41 @@ fn send_tag(
     forget: bool,
     out: &mut [u8],
 ) -> Step {
-    let mut tag = [0u8; 32];
-    let lent = given(line, seen, &mut tag);
-    let n = lent.length;
-    sent(
-        line,
-        lent.seen,
-        h,
-        open,
-        text,
-        meta,
-        forget,
-        out,
-        &mut tag[0..n],
-    )
+    let mut array = [0u8; TAG_ARRAY];
+    tag_lent(line, seen, h, open, text, meta, forget, out, &mut array)
 }
 
-// FORGET OUTPUT: the choice, and the output buffer that is lent.
-fn send_on(line: &[u8], seen: Seen, h: Hand, open: bool, text: &[u8], meta: &[u8]) -> Step {
-    let mut out = room();
+// FORGET OUTPUT: the choice, and the output buffer that is lent out of `array`.
+fn out_lent(
+    line: &[u8],
+    seen: Seen,
+    h: Hand,
+    open: bool,
+    text: &[u8],
+    meta: &[u8],
+    array: &mut [u8],
+) -> Step
+    requires { ⌜ 64 ≤ length (now array) ⌝ }
+{
     let forget = number(line, seen, 1);
-    let lent = given(line, forget.seen, &mut out);
-    let n = lent.length;
-    send_tag(
+    let out = lent(line, forget.seen, array);
+    let end = BEFORE + out.length;
+    let s = send_tag(
         line,
-        lent.seen,
+        out.seen,
         h,
         open,
         text,
         meta,
         forget.value != 0,
-        &mut out[0..n],
-    )
+        &mut array[BEFORE..end],
+    );
+    guarded(s, kept(array, BEFORE, end))
+}
+
+fn send_on(line: &[u8], seen: Seen, h: Hand, open: bool, text: &[u8], meta: &[u8]) -> Step {
+    let mut array = output_array();
+    out_lent(line, seen, h, open, text, meta, &mut array)
 }
 
 // METADATA

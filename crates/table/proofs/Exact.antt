@@ -96,6 +96,9 @@ number-in-order number qs rs work refusal p own last = go (first qs) own ∙ sym
     go zero e = last
     go (suc n) e = e
 
+pub is-done : {A : Type 0} (n : ℕ) (new old : A) → n ≡ 0 → ifDone n new old ≡ new
+is-done n new old e = rw e refl
+
 pub not-done : {A : Type 0} (n : ℕ) (new old : A) → (n ≡ 0 → ⊥) → ifDone n new old ≡ old
 not-done zero new old h = absurd (h refl)
 not-done (suc n) new old h = refl

@@ -2,7 +2,7 @@
 // Every crate that refuses takes its numbers from here; the definitions take theirs from specs/Numbers.antt.
 ghost use mathlib.Core.Path.{_≡_};
 ghost use Rattle.table.specs.Refusals.{orElse};
-ghost use Rattle.table.specs.Choices.{phaseNumber, isRiding, asked};
+ghost use Rattle.table.specs.Choices.{isRiding, asked};
 
 pub const DONE: u8 = 0;
 
@@ -38,6 +38,9 @@ pub const READINGS_LENGTH: u8 = 15;
 
 pub const READING_RANGE: u8 = 16;
 
+// The bytes of a tag at every instance, as an array's length names them.
+pub const TAG_BYTES: usize = 16;
+
 // What start, wrap and unwrap answer at every instance: the number, the bytes written, the permutation runs.
 pub struct Answer {
     pub number: u8,
@@ -64,17 +67,6 @@ pub enum StartTag {
     None,
     Produced,
     Checked,
-}
-
-// The number of a phase, for the host.
-pub fn phase_number(phase: Phase) -> u8
-    ensures { λ r. ⌜ r ≡ phaseNumber phase ⌝ }
-{
-    match phase {
-        Phase::Unstarted => 0,
-        Phase::Riding => 1,
-        Phase::Failed => 2,
-    }
 }
 
 // Whether the phase is that of a session under way.

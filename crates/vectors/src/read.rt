@@ -1,10 +1,16 @@
 // Reading a line of the vector layout (docs/VECTORS.md): words with a space between two, numbers, and bytes in five words.
 // Each reader says too whether its words were sound, so that a line outside the layout is seen.
-ghost use Prim.Native.Nat.{_≤_};
+ghost use mathlib.Core.Path.{_≡_};
+ghost use Prim.Native.Nat.{_≤_, min};
 ghost use lib.ListN.{length};
-use slices::least;
 use std::num::wrapping_add_u8;
 use std::num::wrapping_add_usize;
+
+pub fn least(a: usize, b: usize) -> usize
+    ensures { λ r. ⌜ r ≡ min a b ⌝ }
+{
+    if a <= b { a } else { b }
+}
 
 // The place of the first `stop` from `from` on, or the end.
 pub fn until(s: &[u8], from: usize, stop: u8) -> usize

@@ -57,7 +57,7 @@ pub fn add(t: Tally, kind: usize, same: bool) -> Tally {
     }
 }
 
-// One line more, and whether it opens a session.
+// One line more, and whether it opens a session. What ended before did not end the file.
 pub fn next_line(t: Tally, opens: bool) -> Tally {
     let agreed = t.agreed;
     let differed = t.differed;
@@ -67,11 +67,11 @@ pub fn next_line(t: Tally, opens: bool) -> Tally {
         sessions: wrapping_add_usize(t.sessions, one(opens)),
         line: wrapping_add_usize(t.line, 1),
         first: t.first,
-        ended: t.ended,
+        ended: false,
     }
 }
 
-// The end of the file, where the line of totals is right.
+// The line of totals, with which the file ends if nothing follows it.
 pub fn ended(t: Tally) -> Tally {
     let agreed = t.agreed;
     let differed = t.differed;

@@ -1,4 +1,7 @@
 // The bytes of a state, little-endian in a lane, at both widths.
+pub const BYTES64: usize = 200;
+
+pub const BYTES32: usize = 100;
 
 // Byte `at` of the state; a place past the end is taken from the start again.
 pub fn byte64(lanes: [u64; 25], at: usize) -> u8 {
@@ -12,20 +15,20 @@ pub fn byte32(lanes: [u32; 25], at: usize) -> u8 {
 }
 
 // All bytes of the state.
-pub fn bytes64(lanes: [u64; 25]) -> [u8; 200] {
-    let mut out = [0u8; 200];
+pub fn bytes64(lanes: [u64; 25]) -> [u8; BYTES64] {
+    let mut out = [0u8; BYTES64];
     let mut i = 0;
-    while i < 200 {
+    while i < BYTES64 {
         out[i] = byte64(lanes, i);
         i += 1;
     }
     out
 }
 
-pub fn bytes32(lanes: [u32; 25]) -> [u8; 100] {
-    let mut out = [0u8; 100];
+pub fn bytes32(lanes: [u32; 25]) -> [u8; BYTES32] {
+    let mut out = [0u8; BYTES32];
     let mut i = 0;
-    while i < 100 {
+    while i < BYTES32 {
         out[i] = byte32(lanes, i);
         i += 1;
     }

@@ -99,7 +99,7 @@ fn receive(
 fn send(instance: Instance, key: &[u8], nonce: &[u8], plain: &[u8], months: usize)
     requires { ⌜ (length (now plain) ≡ 16400) × (months ≤ 100) ⌝ }
 {
-    let mut tag = [0u8; 16];
+    let mut tag = [0u8; table::TAG_BYTES];
     let mut sealed = [0u8; 16400];
     let sender = packets::start(instance, key, nonce, StartTag::Produced, &mut tag);
     let answer = sender.answer;

@@ -14,8 +14,8 @@ use Rattle.engine32.proofs.start.Tie as tie
 eom-of-requires : tie.Need-eom-of-requires
 eom-of-requires c κs = search needs
 
-cast-chain : tie.Need-cast-chain
-cast-chain c = record { fits = omega (arith, c .before .before .before .before .before .pre .0 .chain, river-sound .chainFits, river-sound .textFits, river-sound .offsetsSmall) }
+as-byte-requires : tie.Need-as-byte-requires
+as-byte-requires c κs = omega (arith, c .before .before .before .before .pre .0 .chain, river-sound .chainFits, river-sound .textFits, river-sound .offsetsSmall)
 
 open-group-requires : tie.Need-open-group-requires
 open-group-requires c κs = search needs
@@ -30,9 +30,10 @@ returns : tie.Need-returns
 returns c =
     let a = c .before .before .before .before .before .before .before .before .before .args in
     let q = c .before .before .before .before .before .before .before .before .before .pre .0 .chain in
+    let b = c .before .before .before .before .as-byte .ensures in
     let g = c .before .before .before .open-group in
     let z = start-knot 800 32 256 riverF river-sound (a .key .now) (a .nonce .now) (a .forget) (a .tagged) (stateOf (g .result .lanes)) (stateOf (c .before .knot .result)) (g .result .runs)
-    (c .before .before .before .before .before .if1 .taken) (rw q at (g .ensures .0)) (rw q at (g .ensures .1 .0)) (rw (c .before .before .before .before .before .before .eom-of .ensures) at (c .before .knot .ensures)) in
+    (c .before .before .before .before .before .if1 .taken) (rw (b, q) at (g .ensures .0)) (rw (b, q) at (g .ensures .1 .0)) (rw (c .before .before .before .before .before .before .eom-of .ensures) at (c .before .knot .ensures)) in
     (z .0, z .1)
 
 open-group-requires-2 : tie.Need-open-group-requires-2
@@ -51,7 +52,7 @@ start-spec =
     tie.close
     (tie.spec
     eom-of-requires
-    cast-chain
+    as-byte-requires
     open-group-requires
     knot-requires
     add-t12

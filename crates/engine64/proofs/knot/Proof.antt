@@ -4,7 +4,8 @@ use native.Mathlib.Omega.{arith}
 use lib.ListN.{length, length-take}
 use Rattle.lanes64.specs.State.{stateOf}
 use Rattle.motorist.proofs.Instances.{lake-sound}
-use Rattle.piston64.proofs.Numbers.{chain-32}
+use Rattle.piston64.proofs.Numbers.{chain-bytes}
+use Rattle.rates.specs.Counts.{chainBytes}
 use borrow.Author.Needs.{needs}
 use Rattle.engine64.proofs.knot.Statement.{statement}
 use Rattle.engine64.proofs.knot.Tie as tie
@@ -21,10 +22,10 @@ slice-aggregate-inject c = search needs
 inject-requires : tie.Need-inject-requires
 inject-requires c κs =
     let e = c .before .before .squeeze .ensures in
-    (c .before .before .before .before .pre, omega (arith, ap length e, length-take 32 (stateOf (c .before .before .before .before .args .lanes)), chain-32, lake-sound .chainFits, lake-sound .textFits))
+    (c .before .before .before .before .pre, omega (arith, ap length e, length-take chainBytes (stateOf (c .before .before .before .before .args .lanes)), chain-bytes, lake-sound .chainFits, lake-sound .textFits))
 
 returns : tie.Need-returns
-returns c = rw (chain-32, ← c .before .before .before .squeeze .ensures) (c .inject .ensures)
+returns c = rw (chain-bytes, ← c .before .before .before .squeeze .ensures) (c .inject .ensures)
 
 pub knot-spec : {M : Type 1} → statement M
 knot-spec =

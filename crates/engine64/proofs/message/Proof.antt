@@ -12,8 +12,8 @@ use Rattle.engine64.proofs.message.Tie as tie
 eom-tag-requires : tie.Need-eom-tag-requires
 eom-tag-requires c κs = search needs
 
-cast-chain : tie.Need-cast-chain
-cast-chain c = record { fits = omega (arith, c .before .before .before .before .before .before .pre .0 .0 .chain, lake-sound .chainFits, lake-sound .textFits, lake-sound .offsetsSmall) }
+as-byte-requires : tie.Need-as-byte-requires
+as-byte-requires c κs = omega (arith, c .before .before .before .before .before .pre .0 .0 .chain, lake-sound .chainFits, lake-sound .textFits, lake-sound .offsetsSmall)
 
 group-requires : tie.Need-group-requires
 group-requires c κs = search needs
@@ -31,11 +31,12 @@ returns : tie.Need-returns
 returns c =
     let a = c .before .before .before .before .before .before .before .before .before .before .before .before .before .args in
     let q = c .before .before .before .before .before .before .before .before .before .before .before .before .before .pre .0 in
+    let b = c .before .before .before .before .before .before .before .as-byte .ensures in
     let g = c .before .before .before .before .before .group in
-    let z = message-knot 1600 64 256 lakeF lake-sound (a .decrypt) (stateOf (a .lanes)) (a .at) (a .text .now) (a .meta .now) (q .1) (a .forget)
-    (stateOf (g .result .lanes)) (stateOf (c .before .knot .result)) (g .result .runs) (c .before .before .before .before .before .before .before .before .if1 .taken) (rw (q .0 .chain) at (g .ensures .0 .states)) (rw (q .0 .chain) at (g .ensures .0 .runs))
+    let z = message-knot 1600 64 256 lakeF lake-sound (a .decrypt) (stateOf (a .lanes)) (a .at .0) (a .text .now) (a .meta .now) (q .1) (a .forget)
+    (stateOf (g .result .lanes)) (stateOf (c .before .knot .result)) (g .result .runs) (c .before .before .before .before .before .before .before .before .if1 .taken) (rw (b, q .0 .chain) at (g .ensures .0 .states)) (rw (b, q .0 .chain) at (g .ensures .0 .runs))
     (rw (c .before .before .before .before .before .before .before .before .before .eom-tag .ensures) at (c .before .knot .ensures)) in
-    record { states = z .0; output = rw (q .0 .chain, z .1) at (g .ensures .0 .output); runs = z .2 }
+    record { states = z .0; output = rw (b, q .0 .chain, z .1) at (g .ensures .0 .output); runs = z .2 }
 
 group-requires-2 : tie.Need-group-requires-2
 group-requires-2 c κs = search needs
@@ -48,7 +49,7 @@ returns-2 c =
     let a = c .before .before .before .before .before .before .before .before .before .args in
     let g = c .before .before .group2 in
     let t = c .before .before .before .before .before .eom-tag .ensures in
-    let e = message-plain 1600 64 256 lakeF lake-sound (a .decrypt) (stateOf (a .lanes)) (a .at) (a .text .now) (a .meta .now) (c .before .before .before .before .before .before .before .before .before .pre .0 .1) (a .forget) (c .before .before .before .before .if1 .left) in
+    let e = message-plain 1600 64 256 lakeF lake-sound (a .decrypt) (stateOf (a .lanes)) (a .at .0) (a .text .now) (a .meta .now) (c .before .before .before .before .before .before .before .before .before .pre .0 .1) (a .forget) (c .before .before .before .before .if1 .left) in
     rode-as e (rw t at (g .ensures .0))
 
 pub message-spec : {M : Type 1} → statement M
@@ -56,7 +57,7 @@ message-spec =
     tie.close
     (tie.spec
     eom-tag-requires
-    cast-chain
+    as-byte-requires
     group-requires
     knot-requires
     add-t17

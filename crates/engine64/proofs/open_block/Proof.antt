@@ -4,6 +4,7 @@ use Prim.Native.Nat.{ℕ}
 use native.Mathlib.Omega.{arith}
 use lib.ListN.{length, take, replicate}
 use Rattle.piston.proofs.Turns.{zeros-length}
+use Rattle.lanes64.specs.State.{stateBytes}
 use Rattle.piston64.proofs.Numbers.{room}
 use Rattle.engine64.proofs.open_block.Statement.{statement}
 use Rattle.engine64.proofs.open_block.Tie as tie
@@ -12,17 +13,17 @@ array-borrow-prefix-buffer : tie.Need-array-borrow-prefix-buffer
 array-borrow-prefix-buffer c = omega (arith, c .before .before .pre .1 .0, room)
 
 slice-aggregate-open-in : tie.Need-slice-aggregate-open-in
-slice-aggregate-open-in c = sym (zeros-length (c .before .before .before .args .n) 200 (omega (arith, c .before .before .before .pre .1 .0, room)))
+slice-aggregate-open-in c = sym (zeros-length (c .before .before .before .args .n .0) stateBytes (omega (arith, c .before .before .before .pre .1 .0, room)))
 
 open-in-requires : tie.Need-open-in-requires
 open-in-requires c κs =
     let q = c .before .before .before .pre in
-    let e : length (take {A = ℕ} (c .before .before .before .args .n) (replicate 200 0)) ≡ c .before .before .before .args .n = zeros-length (c .before .before .before .args .n) 200 (omega (arith, q .1 .0, room)) in
+    let e : length (take {A = ℕ} (c .before .before .before .args .n .0) (replicate stateBytes 0)) ≡ c .before .before .before .args .n .0 = zeros-length (c .before .before .before .args .n .0) stateBytes (omega (arith, q .1 .0, room)) in
     (q .0, (rw e (q .1 .0), rw e (q .1 .1)))
 
 returns : tie.Need-returns
 returns c =
-    let e : length (take {A = ℕ} (c .before .before .before .before .before .args .n) (replicate 200 0)) ≡ c .before .before .before .before .before .args .n = zeros-length (c .before .before .before .before .before .args .n) 200 (omega (arith, c .before .before .before .before .before .pre .1 .0, room)) in
+    let e : length (take {A = ℕ} (c .before .before .before .before .before .args .n .0) (replicate stateBytes 0)) ≡ c .before .before .before .before .before .args .n .0 = zeros-length (c .before .before .before .before .before .args .n .0) stateBytes (omega (arith, c .before .before .before .before .before .pre .1 .0, room)) in
     rw e at (c .before .open-in .ensures)
 
 pub open-block-spec : {M : Type 1} → statement M

@@ -5,20 +5,26 @@ use Rattle.lanes64.specs.State.{stateOf}
 use Rattle.motorist.specs.Keyak.{lakeF}
 use Rattle.motorist.proofs.Instances.{lake-sound}
 use Rattle.plan.proofs.Knots.{inject-step}
+use borrow.Author.Needs.{needs}
 use Rattle.piston64.proofs.Numbers.{room}
 use Rattle.piston64.proofs.inject.Statement.{statement}
 use Rattle.piston64.proofs.inject.Tie as tie
 
-cast-t8 : tie.Need-cast-t8
-cast-t8 c = record { fits = omega (arith, room, c .before .pre .1) }
+length-of-requires : tie.Need-length-of-requires
+length-of-requires c κs = search needs
+
+as-byte-requires : tie.Need-as-byte-requires
+as-byte-requires c κs = omega (arith, room, c .length-of .ensures, c .before .before .before .pre .1)
 
 finish-requires : tie.Need-finish-requires
-finish-requires c κs = (c .before .pre .0 .full, refl, omega (arith, room, c .before .pre .1))
+finish-requires c κs =
+    let p = c .before .before .before .before .pre in (p .0 .full, refl, omega (arith, room, p .1))
 
 returns : tie.Need-returns
 returns c =
-    let a = c .before .before .args in
-    inject-step 1600 64 256 lakeF lake-sound (stateOf (a .lanes)) (a .meta .now) (a .eom) (c .before .before .pre .1) (stateOf (c .finish .result)) (c .finish .ensures)
+    let a = c .before .before .before .before .before .args in
+    let e = rw (c .before .as-byte .ensures, c .before .before .length-of .ensures) at (c .finish .ensures) in
+    inject-step 1600 64 256 lakeF lake-sound (stateOf (a .lanes)) (a .meta .now) (a .eom) (c .before .before .before .before .before .pre .1) (stateOf (c .finish .result)) e
 
 pub inject-spec : {M : Type 1} → statement M
-inject-spec = tie.close (tie.spec cast-t8 finish-requires returns)
+inject-spec = tie.close (tie.spec length-of-requires as-byte-requires finish-requires returns)

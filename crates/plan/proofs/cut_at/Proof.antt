@@ -1,56 +1,53 @@
 -- The proof that `plan::cut_at` meets its contract.
-use Prim.Native.Nat.{_-_}
+use mathlib.Core.Path.{refl, ap}
+use Rattle.rates.specs.Counts.{counted}
 use native.Mathlib.Omega.{arith}
 use Rattle.plan.proofs.Walk.{from-le}
 use borrow.Author.Needs.{needs}
 use Rattle.plan.proofs.cut_at.Statement.{statement}
 use Rattle.plan.proofs.cut_at.Tie as tie
 
-sub-inject-start : tie.Need-sub-inject-start
-sub-inject-start c = search needs
+rest-requires : tie.Need-rest-requires
+rest-requires c κs = search needs
 
 inject-start-requires : tie.Need-inject-start-requires
 inject-start-requires c κs = search needs
 
-sub-least : tie.Need-sub-least
-sub-least c = search needs
+rest-requires-2 : tie.Need-rest-requires-2
+rest-requires-2 c κs = search needs
 
-sub-least-2 : tie.Need-sub-least-2
-sub-least-2 c = search needs
+lesser-requires : tie.Need-lesser-requires
+lesser-requires c κs = search needs
 
-least-requires : tie.Need-least-requires
-least-requires c κs = search needs
+rest-requires-3 : tie.Need-rest-requires-3
+rest-requires-3 c κs = let a = c .before .before .before .before .args in omega (arith, from-le (a .rates .text .0) (c .before .before .before .rest .result .0), c .before .before .inject-start .ensures)
 
-sub-least-3 : tie.Need-sub-least-3
-sub-least-3 c = omega (arith, from-le (c .before .before .before .before .args .rates .text .0) (c .before .before .before .before .args .t - c .before .before .before .before .args .text), c .before .before .before .inject-start .ensures)
+rest-requires-4 : tie.Need-rest-requires-4
+rest-requires-4 c κs = search needs
 
-sub-least-4 : tie.Need-sub-least-4
-sub-least-4 c = search needs
+lesser-requires-2 : tie.Need-lesser-requires-2
+lesser-requires-2 c κs = search needs
 
-least-requires-2 : tie.Need-least-requires-2
-least-requires-2 c κs = search needs
+sum-requires : tie.Need-sum-requires
+sum-requires c κs = let g = c .before .before .before .before .before .before .before .good .1 .1 .1 .0 in record { fits = omega (arith, g, c .before .before .before .lesser .ensures, c .before .before .before .before .before .before .rest .ensures) }
 
-add-t10 : tie.Need-add-t10
-add-t10 c = search needs
-
-add-t11 : tie.Need-add-t11
-add-t11 c = search needs
+sum-requires-2 : tie.Need-sum-requires-2
+sum-requires-2 c κs = let g = c .before .before .before .before .before .before .before .before .good .1 .1 .1 .1 .1 in record { fits = omega (arith, g, c .before .lesser2 .ensures, c .before .before .rest4 .ensures) }
 
 returns : tie.Need-returns
-returns c = rw (c .least2 .ensures, c .before .before .least .ensures, c .before .before .before .before .inject-start .ensures)
+returns c = rw (ap counted (c .sum2 .ensures), ap counted (c .before .sum .ensures), c .before .before .lesser2 .ensures, c .before .before .before .rest4 .ensures, c .before .before .before .before .rest3 .ensures, c .before .before .before .before .before .lesser .ensures, c .before .before .before .before .before .before .rest2 .ensures, ap counted (c .before .before .before .before .before .before .before .inject-start .ensures), c .before .before .before .before .before .before .before .before .rest .ensures) refl
 
 pub cut-at-spec : {M : Type 1} → statement M
 cut-at-spec =
     tie.close
     (tie.spec
-    sub-inject-start
+    rest-requires
     inject-start-requires
-    sub-least
-    sub-least-2
-    least-requires
-    sub-least-3
-    sub-least-4
-    least-requires-2
-    add-t10
-    add-t11
+    rest-requires-2
+    lesser-requires
+    rest-requires-3
+    rest-requires-4
+    lesser-requires-2
+    sum-requires
+    sum-requires-2
     returns)

@@ -11,7 +11,7 @@ use Rattle.plan.proofs.opening_part.Statement.{statement}
 use Rattle.plan.proofs.opening_part.Tie as tie
 
 abbrev Inv-loop : tie.InvT-loop
-Inv-loop pack key nonce from out₀ j₀ out j = (j ≤ length out₀) × (length out ≡ length out₀) × (out ≡ take j (drop from (opening pack key nonce)) ++ drop j out₀)
+Inv-loop pack key nonce from out₀ j₀ out j = (j ≤ length out₀) × (length out ≡ length out₀) × (out ≡ take j (drop (from .0) (opening (pack .0) key nonce)) ++ drop j out₀)
 
 abbrev μ-loop : tie.MeasureT-loop
 μ-loop pack key nonce from out₀ j₀ out j = length out₀ - j
@@ -19,10 +19,10 @@ abbrev μ-loop : tie.MeasureT-loop
 loop-holds : tie.Need-loop-holds Inv-loop μ-loop
 loop-holds c = search needs
 
-add-opening-byte : tie.Need-add-opening-byte Inv-loop μ-loop
-add-opening-byte c =
+sum-requires : tie.Need-sum-requires Inv-loop μ-loop
+sum-requires c κs =
     let a = c .before .before .before .before .before .args in
-    record { fits = omega (arith, c .before .before .before .before .before .pre .1, c .before .before .before .before .before .pre .0 .0, c .before .before .before .before .before .pre .0 .2, opening-length (a .pack) (a .key .now) (a .nonce .now) (c .before .before .before .before .before .pre .0 .1)) }
+    record { fits = omega (arith, c .before .before .before .before .before .pre .1, c .before .before .before .before .before .pre .0 .0, c .before .before .before .before .before .pre .0 .2, opening-length (a .pack .0) (a .key .now) (a .nonce .now) (c .before .before .before .before .before .pre .0 .1)) }
 
 opening-byte-requires : tie.Need-opening-byte-requires Inv-loop μ-loop
 opening-byte-requires c κs = search needs
@@ -38,10 +38,10 @@ loop-less c = search needs
 
 loop-again : tie.Need-loop-again Inv-loop μ-loop
 loop-again c =
-    let a = c .before .before .before .before .before .before .args in
-    let l = c .before .before .loop in
-    let o = opening (a .pack) (a .key .now) (a .nonce .now) in
-    (search needs, simp length-set (search needs), rw (l .inv .2) (stretch-more o (a .out .now) (a .from) (l .j) (c .opening-byte .result) (omega (arith, c .before .before .before .before .before .before .pre .1)) (omega arith) (c .opening-byte .ensures)))
+    let a = c .before .before .before .before .before .before .before .args in
+    let l = c .before .before .before .loop in
+    let o = opening (a .pack .0) (a .key .now) (a .nonce .now) in
+    (search needs, simp length-set (search needs), rw (l .inv .2) (stretch-more o (a .out .now) (a .from .0) (l .j) (c .opening-byte .result) (omega (arith, c .before .before .before .before .before .before .before .pre .1)) (omega arith) (rw (c .before .sum .ensures) at (c .opening-byte .ensures))))
 
 same-length : tie.Need-same-length Inv-loop μ-loop
 same-length c = search needs
@@ -60,7 +60,7 @@ opening-part-spec =
     Inv-loop
     μ-loop
     loop-holds
-    add-opening-byte
+    sum-requires
     opening-byte-requires
     slice-write-out
     add-j

@@ -7,10 +7,10 @@ use Rattle.sessions.proofs.all.Statement.{statement}
 use Rattle.sessions.proofs.all.Tie as tie
 
 abbrev Inv-loop : tie.InvT-loop
-Inv-loop file₀ which₀ file which = (which ≤ 6) × (length file ≡ length file₀)
+Inv-loop file₀ which₀ file which = (which ≤ 8) × (length file ≡ length file₀)
 
 abbrev μ-loop : tie.MeasureT-loop
-μ-loop file₀ which₀ file which = 6 - which
+μ-loop file₀ which₀ file which = 8 - which
 
 loop-holds : tie.Need-loop-holds Inv-loop μ-loop
 loop-holds c = search needs

@@ -1,0 +1,2 @@
+-- The law of `keccak64`: what its contract fixes.
+pub mod Once

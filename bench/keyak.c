@@ -17,7 +17,7 @@ enum { RS = 168, RA = 192, PACK = 40 };
 enum { L = sizeof(lane), TAG = 16 };
 
 /* n bytes xored in from lane s on. */
-static void absorb(lane *s, const uint8_t *in, size_t n)
+static void xor_in(lane *s, const uint8_t *in, size_t n)
 {
     lane x;
     for (; n >= L; n -= L, in += L, s++) { memcpy(&x, in, L); *s ^= x; }
@@ -42,7 +42,7 @@ static inline void crypt(lane *s, const uint8_t *in, uint8_t *out, size_t n, int
     memcpy(&x, in, n);
     y = x ^ *s;
     memcpy(out, &y, n);
-    absorb(s, decrypt ? out : in, n);
+    xor_in(s, decrypt ? out : in, n);
 }
 
 /* All the blocks of a group that ends with a tag; answers how many. */
@@ -52,7 +52,7 @@ static inline size_t group(lane s[25], size_t at, const uint8_t *text, size_t t,
         size_t k = t < RS - at ? t : RS - at, from = t ? RS : 0, q = m < RA - from ? m : RA - from;
         uint32_t eom = k == t && q == m ? TAG : 0;
         crypt(s + at / L, text, out, k, decrypt);
-        absorb(s + from / L, meta, q);
+        xor_in(s + from / L, meta, q);
         s[RA / L] ^= (lane)(eom | (uint32_t)(k ? at + k : 0) << 8 | (uint32_t)from << 16 | (uint32_t)(from + q) << 24);
         PERMUTE(s, 12);
         if (eom) return runs;
@@ -64,13 +64,13 @@ static inline size_t group(lane s[25], size_t at, const uint8_t *text, size_t t,
 
 static void start(lane s[25], const uint8_t *key, size_t keys, const uint8_t *nonce, size_t nonces)
 {
-    uint8_t opening[PACK + 128 + 2] = {PACK};
-    memcpy(opening + 1, key, keys);
-    opening[keys + 1] = 1;
-    memcpy(opening + PACK, nonce, nonces);
-    opening[PACK + nonces] = 1;
+    uint8_t injected[PACK + 128 + 2] = {PACK};
+    memcpy(injected + 1, key, keys);
+    injected[keys + 1] = 1;
+    memcpy(injected + PACK, nonce, nonces);
+    injected[PACK + nonces] = 1;
     memset(s, 0, 25 * L);
-    group(s, 0, NULL, 0, opening, PACK + nonces + 2, NULL, 0);
+    group(s, 0, NULL, 0, injected, PACK + nonces + 2, NULL, 0);
 }
 
 WRAP(CALL(wrap))

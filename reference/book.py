@@ -249,12 +249,13 @@ class Scribe:
     def __init__(self, book, instance, dice):
         self.book, self.instance, self.dice = book, instance, dice
 
-    def open(self):
+    def fresh(self):
+        """A session that is not started yet."""
         return Session(self.book, self.instance)
 
     def begin(self, use=PRODUCED, forget=0, key_length=16, nonce_length=24):
         """A session with a start that is done."""
-        session = self.open()
+        session = self.fresh()
         key, nonce = self.dice.bytes(key_length), self.dice.bytes(nonce_length)
         session.start(key, nonce, use, forget, self.start_tag(use, key, nonce, forget))
         return session

@@ -36,7 +36,7 @@ class Message(NamedTuple):
     tag: Given
 
 
-class Opening(NamedTuple):
+class Starting(NamedTuple):
     """What a start is called with."""
     key: Given
     nonce: Given
@@ -53,7 +53,7 @@ def some(scribe, bounds):
     return dice.bytes(dice.below(1 + dice.pick(bounds.lengths)))
 
 
-def cut(dice, tag):
+def resized(dice, tag):
     """The tag, shorter or longer than a tag is."""
     return whole((tag.content + bytes(16))[:dice.pick((0, 1, 15, 17, 32))])
 
@@ -68,17 +68,17 @@ def mistaken(dice, message):
         return message._replace(metadata=dice.bytes(65536))
     if case == 2 and room:
         return message._replace(output=dice.bytes(dice.pick((room - 1, dice.below(room)))))
-    return message._replace(tag=cut(dice, message.tag))
+    return message._replace(tag=resized(dice, message.tag))
 
 
-def mistaken_start(dice, opening):
+def mistaken_start(dice, starting):
     """The start with one thing wrong that is refused with 2, 3 or 7."""
     case = dice.below(3)
     if case == 0:
-        return opening._replace(key=dice.bytes(dice.pick((0, 15, 33, 64))))
+        return starting._replace(key=dice.bytes(dice.pick((0, 15, 33, 64))))
     if case == 1:
-        return opening._replace(nonce=dice.bytes(1025 + dice.below(100)))
-    return opening._replace(use=dice.pick((PRODUCED, CHECKED)), tag=cut(dice, opening.tag))
+        return starting._replace(nonce=dice.bytes(1025 + dice.below(100)))
+    return starting._replace(use=dice.pick((PRODUCED, CHECKED)), tag=resized(dice, starting.tag))
 
 
 def tampered(dice, message):
@@ -107,11 +107,11 @@ def start(scribe, ends, bounds, again):
     forget, tagged = dice.below(2), dice.below(3)
     for end in ends:
         use = dice.pick((PRODUCED, CHECKED)) if tagged else NO_TAG
-        opening = Opening(key, nonce, use, forget, scribe.start_tag(use, key, nonce, forget))
+        starting = Starting(key, nonce, use, forget, scribe.start_tag(use, key, nonce, forget))
         if again or dice.below(6) == 0:
-            end.start(*mistaken_start(dice, opening))
+            end.start(*mistaken_start(dice, starting))
             end.message(*any_message(scribe, bounds))
-        end.start(*opening)
+        end.start(*starting)
 
 
 def send(scribe, session, message, like=None):
@@ -134,7 +134,7 @@ def tampers(dice, bounds):
 
 def alone(scribe, bounds):
     """One end, which unwraps any bytes with the tag that is right for them."""
-    dice, session = scribe.dice, scribe.open()
+    dice, session = scribe.dice, scribe.fresh()
     start(scribe, [session], bounds, False)
     for turn in range(2 + dice.below(3)):
         if turn and dice.below(5) == 0:
@@ -153,7 +153,7 @@ def alone(scribe, bounds):
 def talk(scribe, bounds):
     """Two ends, each its own session: what one wraps the other unwraps, and either may speak next."""
     dice = scribe.dice
-    ends, turns = [scribe.open(), scribe.open()], 2 + dice.below(3)
+    ends, turns = [scribe.fresh(), scribe.fresh()], 2 + dice.below(3)
     scribe.book.talks.append(tuple(ends))
     start(scribe, ends, bounds, False)
     speakers = [dice.below(2) for _ in range(turns)]

@@ -100,7 +100,7 @@ def both_ends(scribe):
     dice = scribe.dice
     for i in range(6):
         key, nonce, forget = dice.bytes(dice.pick(KEYS)), dice.bytes(dice.below(160)), i % 2
-        ends = [scribe.open(), scribe.open()]
+        ends = [scribe.fresh(), scribe.fresh()]
         if i % 4 == 3:
             for end in ends:
                 end.start(key, nonce, NO_TAG, forget, dice.bytes(16))
@@ -123,12 +123,12 @@ def records_by_hand(scribe):
     dice, instance = scribe.dice, scribe.instance
     for kind in KINDS:
         for text_start in table.TEXT_STARTS:
-            session = scribe.open()
+            session = scribe.fresh()
             session.put([dice.below(2 ** 32) << (instance.W - 32) | dice.below(2 ** 32)
                          for _ in range(25)], table.RIDING, text_start)
             scribe.send(session, kind, 40, 30, 0)
             scribe.send(session, kind, 200, 3, 1)
-        session = scribe.open()
+        session = scribe.fresh()
         session.put([0] * 25, table.RIDING, 0)
         scribe.send(session, kind, 20, 20, 0)
 
@@ -156,7 +156,7 @@ def start_limits(scribe):
                 (15, 0, 16), (16, 0, 16), (32, 0, 16), (33, 0, 16), (0, 5, 16),
                 (16, 1024, 16), (16, 1025, 16), (32, 9, 15), (32, 9, 17), (32, 9, 0),
                 (15, 1025, 15), (33, 9, 17), (20, 1025, 0)):
-            session = scribe.open()
+            session = scribe.fresh()
             key, nonce = dice.bytes(key_length), dice.bytes(nonce_length)
             fits = 16 <= key_length <= 32 and nonce_length <= 1024
             forget = dice.below(2)
@@ -184,7 +184,7 @@ def wrong_start_tags(scribe):
     """One bit of the start tag, or the forgetting choice, wrong."""
     dice = scribe.dice
     for case in ((0, 1), (7, 16), (15, 128), "other choice"):
-        session = scribe.open()
+        session = scribe.fresh()
         key, nonce, forget = dice.bytes(16), dice.bytes(12), dice.below(2)
         tag = right_start_tag(scribe.instance, key, nonce, bool(forget))
         if case == "other choice":
@@ -198,11 +198,11 @@ def wrong_start_tags(scribe):
 def not_riding(scribe):
     """Refusal 1: unstarted, failed, and text starts other than 0 and 16."""
     for kind in KINDS:
-        session = scribe.open()
+        session = scribe.fresh()
         on(scribe, session, kind)
         on(scribe, session, kind, text=0, metadata=0, output=0)
         on(scribe, session, kind, text=65536, metadata=65536, output=2, tag=15)
-        session = scribe.open()
+        session = scribe.fresh()
         session.put([0] * 25, table.FAILED, 0)
         on(scribe, session, kind)
         on(scribe, session, kind, text=20, output=3, tag=17)
@@ -272,7 +272,7 @@ def known_tags(scribe):
     dice = scribe.dice
     for tag in (pattern(16, 0, 0), pattern(16, 0, 255)):
         for forget in (0, 1):
-            session = scribe.open()
+            session = scribe.fresh()
             session.start(dice.bytes(16), dice.bytes(12), CHECKED, forget, tag)
             after_failure(scribe, session)
             session = scribe.begin(USES[forget])
@@ -320,15 +320,15 @@ def length_before_tag(scribe):
 
 def permutations(scribe):
     """The permutation call with each count of rounds, and counts it refuses."""
-    session = scribe.open()
+    session = scribe.fresh()
     most = 12 + 2 * keyak.exponent_of(scribe.instance.b)
     session.put([scribe.dice.below(2 ** 32) for _ in range(25)], table.RIDING, 16)
     for rounds in [0, *range(1, most + 1), most + 1, most + 2, 200]:
         session.permute(rounds)
     session.permute(most)
-    session = scribe.open()
+    session = scribe.fresh()
     session.permute(most)
-    session = scribe.open()
+    session = scribe.fresh()
     session.permute(12)
 
 
@@ -454,7 +454,7 @@ def sample_file():
     for instance in (keyak.LAKE, keyak.RIVER):
         scribe = Scribe(book, instance, dice)
         key, nonce = whole(dice.bytes(16).content), whole(dice.bytes(58).content)
-        one, other = scribe.open(), scribe.open()
+        one, other = scribe.fresh(), scribe.fresh()
         _, tag = one.start(key, nonce, PRODUCED, 0, pattern(16, 0, 0))
         other.start(key, nonce, CHECKED, 0, whole(tag))
         for length, forget in ((24, 0), (200, 1)):

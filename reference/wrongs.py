@@ -116,7 +116,7 @@ class Slips:
     """Makes a call again and again, each time told with another word wrong."""
 
     def __init__(self, scribe):
-        self.scribe, self.dice, self.session = scribe, scribe.dice, scribe.open()
+        self.scribe, self.dice, self.session = scribe, scribe.dice, scribe.fresh()
 
     def each(self, call, *arguments):
         """The call once for each way in which a word of its result is wrong."""

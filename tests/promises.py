@@ -1,5 +1,5 @@
 """docs/PROMISES.md names only what there is: files, theorems, contracts and must-fail edits; it names every edit; and it prints the contract of
-every public call as it stands in the code, where none has a `requires`; and `dip` passes on just the dip's calls printed there. python3 tests/promises.py leaves with 1 and says what is missing."""
+every public call as it stands in the code, where none has a `requires`; and `dip` passes on just the dip's calls printed there, their structs and the public constants. python3 tests/promises.py leaves with 1 and says what is missing."""
 import pathlib
 import re
 import sys
@@ -59,12 +59,14 @@ def unprinted(page):
 
 
 def passed_on(page):
-    """What `dip` offers beside the dip's calls that the page prints and the structs in their signatures, and what of these it leaves out."""
+    """What `dip` offers beside the dip's calls that the page prints and the structs in their signatures and the constants beside them, and what of these it leaves out."""
     signatures = {call: text.split("ensures")[0] for call, text in contracts() if f"\n| `{call}` |" in page and call.startswith("dip_")}
     needed = set(signatures)
     for crate in {call.split("::")[0] for call in signatures}:
-        structs = re.findall(r"^pub struct (\w+)", texts(f"{crate}/src/**/*.rt"), re.M)
+        code = texts(f"{crate}/src/**/*.rt")
+        structs = re.findall(r"^pub struct (\w+)", code, re.M)
         needed |= {f"{crate}::{name}" for name in structs if re.search(rf"\b{name}\b", "".join(signatures.values()))}
+        needed |= {f"{crate}::{name}" for name in re.findall(r"^pub const (\w+)", code, re.M)}
     lines = re.sub(r"//.*", "", texts("dip/src/**/*.rt")).split("\n")
     offered = {re.sub(r"^pub use (\w+::\w+);$", r"\1", line) for line in lines if line.strip()}
     yield from (f"dip offers what is no printed call of the dip: {more}" for more in sorted(offered - needed))
@@ -73,7 +75,7 @@ def passed_on(page):
 
 def main():
     page = pathlib.Path("docs/PROMISES.md").read_text()
-    laws, code = texts("*/specs/**/*.antt", "*/proofs/**/*.antt"), texts("*/src/**/*.rt")
+    laws, code = texts("*/specs/**/*.antt", "*/proofs/**/*.antt"), re.sub(r"//.*", "", texts("*/src/**/*.rt"))  # a name in a comment is none
     missing, edits, seen = [], set(), 0
     for cell in cells(page):
         crate = None

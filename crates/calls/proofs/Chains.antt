@@ -16,7 +16,7 @@ use Rattle.motorist.proofs.OnePiston.{start-given, message-given}
 use Rattle.motorist.proofs.Rides.{message-output}
 use Rattle.calls.specs.Session.{View, Records, Serves, underWay}
 use Rattle.calls.specs.Outcome.{Outcome, endState}
-use Rattle.calls.specs.Chain.{Call, Opening, callOf, outcomes, endOf, openingOf, begins}
+use Rattle.calls.specs.Chain.{Call, StartCall, callOf, outcomes, endOf, startCallOf, begins}
 use Rattle.calls.specs.Words.{textLength, putOut, rideOf, AllDone, Unrefused, startIn, stepOf, defined, textStart, Stands}
 use Rattle.calls.proofs.Allowed.{live-fits}
 use Rattle.calls.proofs.OneCall.{call-done, call-allowed}
@@ -40,7 +40,7 @@ module _ {R : Type 0} (K : Records R) (i : Instance) (f : Bytes → Bytes) where
       (message-output i f ok (c .decrypt) (v .state ∷ []) (v .at) (call-fits ok x c e) (c .message)))
 
   -- ---- a start that is done gives the record of the state after its ride
-  pub start-next : (a : Opening) → openingOf K i f a .answer .number ≡ done → begins K i f a ≡ K .riding (endState (start i f (startIn a))) (taken (asked (a .choice)))
+  pub start-next : (a : StartCall) → startCallOf K i f a .answer .number ≡ done → begins K i f a ≡ K .riding (endState (start i f (startIn a))) (taken (asked (a .choice)))
   start-next a e = ap (λ (o : Outcome R). o .session) (start-leaves K i f a .done e)
 
 -- ---- the sessions of a chain are the definition's
@@ -82,18 +82,18 @@ module _ {b w k : ℕ} (ok : Sound (solo b w k)) (f : Bytes → Bytes) {R : Type
       }
 
   -- ---- a start that is done
-  start-view : (a : Opening) → openingOf K one f a .answer .number ≡ done
+  start-view : (a : StartCall) → startCallOf K one f a .answer .number ≡ done
       → K .shows (begins K one f a) ≡ underWay (endState (start one f (startIn a))) (taken (asked (a .choice)))
   start-view a e =
       let g = start-given b w k f ok (startIn a) in
       rw (start-next K one f a e) (rides-on (start one f (startIn a)) (g .0) (taken (asked (a .choice))) (g .1))
 
-  pub start-steps : (a : Opening) (cs : List Call) → openingOf K one f a .answer .number ≡ done
+  pub start-steps : (a : StartCall) (cs : List Call) → startCallOf K one f a .answer .number ≡ done
       → (let y : View = K .shows (begins K one f a) in steps one f (y .state ∷ []) (y .at) (map stepOf cs) ≡ defined one f a cs)
   start-steps a cs e = rw (start-view a e, start-given b w k f ok (startIn a) .1)
 
   -- the session that a chain leaves is the definition's
-  pub stands : (a : Opening) (cs : List Call) → Unrefused K one f a cs
+  pub stands : (a : StartCall) (cs : List Call) → Unrefused K one f a cs
       → Stands (K .shows (endOf K one f (begins K one f a) cs)) (defined one f a cs) (textStart (taken (asked (a .choice))) cs)
   stands a cs h =
       let e = start-view a (h .start) in

@@ -22,7 +22,7 @@ use Rattle.motorist.specs.Engine.{Ride, States}
 use Rattle.motorist.specs.Rode.{Rode}
 use Rattle.motorist.specs.Motorist.{Message, tag, start, wrap, unwrap}
 use Rattle.calls.specs.Session.{View, Records}
-use Rattle.calls.specs.Outcome.{refused, messageRules, startRules, wrapRules, openRules, wrapped, unwrapped, checked, started, wrapOf, unwrapOf, startOf}
+use Rattle.calls.specs.Outcome.{refused, messageRules, startRules, wrapRules, startRulesOf, wrapped, unwrapped, checked, started, wrapOf, unwrapOf, startOf}
 use Rattle.calls.specs.Allowed.{Allowed, AllowedStart}
 use Rattle.calls.specs.Ends.{Began, onward, judged, withheld}
 use Rattle.calls.proofs.Allowed.{allowed, allowed-start, live-fits, live-lane}
@@ -76,7 +76,7 @@ module _ {R : Type 0} (K : Records R) (i : Instance) (f : Bytes → Bytes) (x : 
   unwrap-done z = rw (← found) (if-done why _ _ z)
 
 module _ {R : Type 0} (K : Records R) (i : Instance) (f : Bytes → Bytes) (key nonce : Bytes) (forgets : Bool) (choice : StartTag) (g : Bytes) {why : ℕ}
-    (found : why ≡ first (openRules key nonce choice g)) where
+    (found : why ≡ first (startRulesOf key nonce choice g)) where
   pub start-refused : (why ≡ 0 → ⊥) → refused why (K .unstarted) [] g ≡ startOf K i f key nonce forgets choice g
   unfolding startOf
   start-refused n = rw (← found) (if-refused why _ _ n)

@@ -12,8 +12,8 @@ use Rattle.motorist.specs.Instance.{Instance}
 use Rattle.motorist.specs.Piston.{Bytes}
 use Rattle.motorist.specs.Motorist.{Message, tag, unwrap}
 use Rattle.calls.specs.Session.{View, Records, live}
-use Rattle.calls.specs.Outcome.{refused, wrapRules, openRules, wrapped, wrapOf, unwrapOf}
-use Rattle.calls.specs.Chain.{Call, Opening, callOf, openingOf}
+use Rattle.calls.specs.Outcome.{refused, wrapRules, startRulesOf, wrapped, wrapOf, unwrapOf}
+use Rattle.calls.specs.Chain.{Call, StartCall, callOf, startCallOf}
 use Rattle.calls.specs.Words.{textLength, rideOf}
 use Rattle.calls.specs.Promises.{tagRule, unwrapDiffers, startDiffers, turnedAway}
 use Rattle.calls.specs.Allowed.{Allowed, AllowedStart}
@@ -24,8 +24,8 @@ use Rattle.calls.proofs.Refusals.{wrap-exactly, unwrap-exactly, start-e
 abbrev pub AllowedCall : View → Call → Type 0
 AllowedCall v c = Allowed (v .phase) (v .at) (textLength c) (length (c .message .meta)) (length (c .out)) (length (c .tag))
 
-abbrev pub AllowedOpening : Opening → Type 0
-AllowedOpening a = AllowedStart (length (a .key)) (length (a .nonce)) (a .choice) (length (a .tag))
+abbrev pub AllowedStartCall : StartCall → Type 0
+AllowedStartCall a = AllowedStart (length (a .key)) (length (a .nonce)) (a .choice) (length (a .tag))
 
 -- the call c with the choice d to decrypt or not: laws of both go by cases of d
 abbrev pub either : Call → Bool → Call
@@ -88,14 +88,14 @@ module _ {R : Type 0} (K : Records R) (i : Instance) (f : Bytes → Bytes) (x : 
       go false = rw e
 
 -- ---- a start that is done, and one that is to be
-module _ {R : Type 0} (K : Records R) (i : Instance) (f : Bytes → Bytes) (a : Opening) where
-  pub start-allowed : openingOf K i f a .answer .number ≡ done → AllowedOpening a
+module _ {R : Type 0} (K : Records R) (i : Instance) (f : Bytes → Bytes) (a : StartCall) where
+  pub start-allowed : startCallOf K i f a .answer .number ≡ done → AllowedStartCall a
   start-allowed e =
       allowed-start _ _ (a .choice) _
-      (none-front (openRules (a .key) (a .nonce) (a .choice) (a .tag)) (tagRule (startDiffers i f a)) (start-exactly K i f a .done .0 e))
+      (none-front (startRulesOf (a .key) (a .nonce) (a .choice) (a .tag)) (tagRule (startDiffers i f a)) (start-exactly K i f a .done .0 e))
 
-  pub start-does : AllowedOpening a → startDiffers i f a ≡ false → openingOf K i f a .answer .number ≡ done
+  pub start-does : AllowedStartCall a → startDiffers i f a ≡ false → startCallOf K i f a .answer .number ≡ done
   start-does h e =
       start-exactly K i f a .done .1
-      (none-both (openRules (a .key) (a .nonce) (a .choice) (a .tag)) (tagRule (startDiffers i f a))
+      (none-both (startRulesOf (a .key) (a .nonce) (a .choice) (a .tag)) (tagRule (startDiffers i f a))
       (none-refused-start (length (a .key)) (length (a .nonce)) (a .choice) (length (a .tag)) h) (e, tt))

@@ -25,7 +25,7 @@ use Rattle.motorist.proofs.Rides.{message-output}
 use Rattle.motorist.proofs.RoundTrip.{mirrored, unwrap-wrap, wrap-unwrap}
 use Rattle.calls.specs.Session.{View, Records}
 use Rattle.calls.specs.Outcome.{endState, wrapped, wrapOf, unwrapOf}
-use Rattle.calls.specs.Chain.{Call, Opening, callOf, outcomes, endOf, openingOf, begins}
+use Rattle.calls.specs.Chain.{Call, StartCall, callOf, outcomes, endOf, startCallOf, begins}
 use Rattle.calls.specs.Words.{textLength, putOut, rideOf, AllDone, NoneDiffers, Unrefused, Unbroken, accepted, acceptedOf, startIn, stepOf}
 use Rattle.calls.specs.Promises.{checks, cryptogramOf, joining, Joins, Beside, Joined, InVain, InStep, Agree, StartsAlike, Partnered, Talks, Heard, Partner}
 use Rattle.calls.specs.Allowed.{Allowed}
@@ -218,7 +218,7 @@ module _ {b w k : ℕ} (ok : Sound (solo b w k)) (f : Bytes → Bytes) (long : L
       (in-touch x (callOf K one f y p .session) (c ∷ cs) ps (refused-stays K one f y p (u .0 .refused) (u .0 .not-by-tag) ∙ e) h (u .1))
 
   -- ---- a start
-  module _ (a p : Opening) (e : openingOf K one f a .answer .number ≡ done) (h : StartsAlike K one f a p) where
+  module _ (a p : StartCall) (e : startCallOf K one f a .answer .number ≡ done) (h : StartsAlike K one f a p) where
     alike : startIn p ≡ startIn a
     alike = rw (h .key, h .nonce, h .forgets, h .tagged)
 
@@ -237,8 +237,8 @@ module _ {b w k : ℕ} (ok : Sound (solo b w k)) (f : Bytes → Bytes) (long : L
     tag-agrees Produced c = refl
     tag-agrees Checked c = rw (first-tag c, alike, same-refl (tag (start one f (startIn a) .states)))
 
-    start-heard : openingOf K one f p .answer .number ≡ done
-    start-heard =
+    partner-starts : startCallOf K one f p .answer .number ≡ done
+    partner-starts =
         let g = start-allowed K one f a e in
         start-does K one f p
         (record { long = rw (h .key) (g .long); short = rw (h .key) (g .short); nonce = rw (h .nonce) (g .nonce); tag = tag-fits (p .choice) refl })
@@ -246,34 +246,34 @@ module _ {b w k : ℕ} (ok : Sound (solo b w k)) (f : Bytes → Bytes) (long : L
 
     start-same : begins K one f p ≡ begins K one f a
     start-same =
-        start-next K one f p start-heard
+        start-next K one f p partner-starts
         ∙ ap (λ (s : Start). K .riding (endState (start one f s)) (taken (s .tagged))) alike
         ∙ sym (start-next K one f a e)
 
   -- ---- chains from a start
-  partner-unrefused : (a : Opening) (cs : List Call) (p : Opening) (ps : List Call) → Unrefused K one f a cs → StartsAlike K one f a p
+  partner-unrefused : (a : StartCall) (cs : List Call) (p : StartCall) (ps : List Call) → Unrefused K one f a cs → StartsAlike K one f a p
       → Beside K one f (Joined K one f) (begins K one f a) cs (begins K one f p) ps
       → Unrefused K one f p ps × (begins K one f p ≡ begins K one f a) × Beside K one f (Agree K one f) (begins K one f a) cs (begins K one f p) ps
   partner-unrefused a cs p ps h s u =
       let e = start-same a p (h .start) s in
       let z = chain-joined (begins K one f a) (begins K one f p) cs ps e (h .calls) u in
-      (record { start = start-heard a p (h .start) s; calls = z .0 }, e, z .1)
+      (record { start = partner-starts a p (h .start) s; calls = z .0 }, e, z .1)
 
-  partner-talk : (a : Opening) (cs : List Call) (p : Opening) (ps : List Call) → openingOf K one f a .answer .number ≡ done → StartsAlike K one f a p
+  partner-talk : (a : StartCall) (cs : List Call) (p : StartCall) (ps : List Call) → startCallOf K one f a .answer .number ≡ done → StartsAlike K one f a p
       → Beside K one f (Talks K one f) (begins K one f a) cs (begins K one f p) ps
       → Unrefused K one f a cs × Unrefused K one f p ps × (begins K one f p ≡ begins K one f a) × Beside K one f (Heard K one f) (begins K one f a) cs (begins K one f p) ps
   partner-talk a cs p ps h s u =
       let e = start-same a p h s in
       let z = chain-spoken (begins K one f a) (begins K one f p) cs ps e u in
-      (record { start = h; calls = z .0 }, record { start = start-heard a p h s; calls = z .1 }, e, z .2)
+      (record { start = h; calls = z .0 }, record { start = partner-starts a p h s; calls = z .1 }, e, z .2)
 
-  partner-in-step : (a : Opening) (cs : List Call) (p : Opening) (ps : List Call) → Unbroken K one f a cs → StartsAlike K one f a p
+  partner-in-step : (a : StartCall) (cs : List Call) (p : StartCall) (ps : List Call) → Unbroken K one f a cs → StartsAlike K one f a p
       → InStep K one f (begins K one f a) (acceptedOf K one f a cs) (begins K one f p) ps → Partnered K one f a cs p ps
   partner-in-step a cs p ps h s u =
       let e = start-same a p (h .start) s in
       let t = in-touch (begins K one f a) (begins K one f p) (acceptedOf K one f a cs) ps e (accepted-unrefused K one f a cs h .calls) u in
       record {
-        unbroken = record { start = start-heard a p (h .start) s; calls = t .calls };
+        unbroken = record { start = partner-starts a p (h .start) s; calls = t .calls };
         start = e;
         steps = t .steps;
         session = t .session ∙ struck K one f (begins K one f a) cs (h .calls) .session;

@@ -18,10 +18,10 @@ use Rattle.motorist.specs.Piston.{Bytes}
 use Rattle.motorist.specs.Engine.{Ride}
 use Rattle.motorist.specs.Motorist.{Message, tag, start, wrap, unwrap}
 use Rattle.calls.specs.Session.{View, Records}
-use Rattle.calls.specs.Outcome.{Outcome, refused, wrapRules, openRules, wrapped, unwrapped, checked, started, wrapOf, unwrapOf, startOf}
-use Rattle.calls.specs.Chain.{Opening, openingOf}
+use Rattle.calls.specs.Outcome.{Outcome, refused, wrapRules, startRulesOf, wrapped, unwrapped, checked, started, wrapOf, unwrapOf, startOf}
+use Rattle.calls.specs.Chain.{StartCall, startCallOf}
 use Rattle.calls.specs.Words.{startIn}
-use Rattle.calls.specs.Promises.{tagRule, checks, unwrapDiffers, startDiffers, unwrapRules, openingRules, WrapLeaves, UnwrapLeaves, StartLeaves}
+use Rattle.calls.specs.Promises.{tagRule, checks, unwrapDiffers, startDiffers, unwrapRules, startCallRules, WrapLeaves, UnwrapLeaves, StartLeaves}
 
 -- ---- the number that a tag decides
 module _ {R : Type 0} (K : Records R) where
@@ -55,10 +55,10 @@ module _ {R : Type 0} (K : Records R) (i : Instance) (f : Bytes → Bytes) where
       number-in-order number (wrapRules v c out g) (tagRule (unwrapDiffers i f v c g)) _ _ (omega arith) refl
       (unwrapped-number K (sameBytes (tag (r .states)) g) r (length (c .text)) out g)
 
-  pub start-number : (a : Opening) → openingOf K i f a .answer .number ≡ first (openingRules i f a)
+  pub start-number : (a : StartCall) → startCallOf K i f a .answer .number ≡ first (startCallRules i f a)
   unfolding startOf
   start-number a =
-      number-in-order number (openRules (a .key) (a .nonce) (a .choice) (a .tag)) (tagRule (startDiffers i f a)) _ _ (omega arith) refl
+      number-in-order number (startRulesOf (a .key) (a .nonce) (a .choice) (a .tag)) (tagRule (startDiffers i f a)) _ _ (omega arith) refl
       (started-number K (a .choice) (start i f (startIn a)) (a .tag))
 
   pub wrap-exactly : (x : R) (m : Message) (out g : Bytes) → Exact (wrapOf K i f x m out g .answer .number) (wrapRules (K .shows x) m out g)
@@ -67,8 +67,8 @@ module _ {R : Type 0} (K : Records R) (i : Instance) (f : Bytes → Bytes) where
   pub unwrap-exactly : (x : R) (c : Message) (g out : Bytes) → Exact (unwrapOf K i f x c g out .answer .number) (unwrapRules i f (K .shows x) c g out)
   unwrap-exactly x c g out = exact-is (unwrapRules i f (K .shows x) c g out) (omega arith) (unwrap-number x c g out)
 
-  pub start-exactly : (a : Opening) → Exact (openingOf K i f a .answer .number) (openingRules i f a)
-  start-exactly a = exact-is (openingRules i f a) (omega arith) (start-number a)
+  pub start-exactly : (a : StartCall) → Exact (startCallOf K i f a .answer .number) (startCallRules i f a)
+  start-exactly a = exact-is (startCallRules i f a) (omega arith) (start-number a)
 
   -- ---- what each answer leaves
   pub wrap-leaves : (x : R) (m : Message) (out g : Bytes)
@@ -97,11 +97,11 @@ module _ {R : Type 0} (K : Records R) (i : Instance) (f : Bytes → Bytes) where
       go (suc n) b r t h e =
           record { refusal = λ k l d. rw d; differs = λ d. absurd (h d); done = λ d. absurd (omega arith); kept = refl }
 
-  pub start-leaves : (a : Opening) → StartLeaves K (openingOf K i f a) (a .choice) (start i f (startIn a)) (a .tag)
+  pub start-leaves : (a : StartCall) → StartLeaves K (startCallOf K i f a) (a .choice) (start i f (startIn a)) (a .tag)
   unfolding startOf
   start-leaves a =
-      go (first (openRules (a .key) (a .nonce) (a .choice) (a .tag))) (a .choice) (start i f (startIn a))
-      (first-apart tag-differs (openRules (a .key) (a .nonce) (a .choice) (a .tag)) (omega arith) (omega arith))
+      go (first (startRulesOf (a .key) (a .nonce) (a .choice) (a .tag))) (a .choice) (start i f (startIn a))
+      (first-apart tag-differs (startRulesOf (a .key) (a .nonce) (a .choice) (a .tag)) (omega arith) (omega arith))
     where
       tried : (b : Bool) (r : Ride) → (b ≡ true → tag (r .states) ≡ a .tag) → StartLeaves K (checked K b r (a .tag)) Checked r (a .tag)
       tried true r e =

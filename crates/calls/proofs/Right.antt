@@ -12,7 +12,7 @@ use Rattle.motorist.specs.Motorist.{taken, start, message}
 use Rattle.motorist.specs.Session.{Steps, steps}
 use Rattle.calls.specs.Session.{Records, Serves}
 use Rattle.calls.specs.Outcome.{wrapped}
-use Rattle.calls.specs.Chain.{Call, Opening, callOf, endOf, begins}
+use Rattle.calls.specs.Chain.{Call, StartCall, callOf, endOf, begins}
 use Rattle.calls.specs.Words.{textLength, Unbroken, acceptedOf, startIn, stepOf, defined, textStart, Stands}
 use Rattle.calls.specs.Promises.{andThen, RightAt, Right}
 use Rattle.calls.proofs.Chains.{behind-tag, stands}
@@ -30,7 +30,7 @@ module _ {b w k : ℕ} (ok : Sound (solo b w k)) (f : Bytes → Bytes) {R : Type
   abbrev one : Instance
   one = solo b w k
 
-  right-at : (a : Opening) (front : List Call) (c : Call) (back : List Call) → Unbroken K one f a (front ++ (c ∷ back))
+  right-at : (a : StartCall) (front : List Call) (c : Call) (back : List Call) → Unbroken K one f a (front ++ (c ∷ back))
       → callOf K one f (endOf K one f (begins K one f a) front) c .answer .number ≡ done → RightAt K one f a front c
   right-at a front c back h d =
       let x : R = endOf K one f (begins K one f a) front in
@@ -47,4 +47,4 @@ module _ {b w k : ℕ} (ok : Sound (solo b w k)) (f : Bytes → Bytes) {R : Type
       }
 
   pub right : Right K one f
-  right = record { opening = λ a. start-leaves K one f a .done; struck = struck K one f; steps = right-at; unrefused = unrefused-unbroken K one f }
+  right = record { start = λ a. start-leaves K one f a .done; struck = struck K one f; steps = right-at; unrefused = unrefused-unbroken K one f }

@@ -17,7 +17,7 @@ use Rattle.motorist.proofs.Story.{session-steps, same-messages}
 use Rattle.motorist.proofs.Prefix.{front-messages}
 use Rattle.calls.specs.Session.{Records, Serves}
 use Rattle.calls.specs.Outcome.{Outcome}
-use Rattle.calls.specs.Chain.{Call, Opening, callOf, outcomes, endOf, openingOf, begins}
+use Rattle.calls.specs.Chain.{Call, StartCall, callOf, outcomes, endOf, startCallOf, begins}
 use Rattle.calls.specs.Words.{rideOf, AllDone, NoneDiffers, onlyDone, Unrefused, Unbroken, accepted, acceptedOf, startIn, stepOf, defined}
 use Rattle.calls.specs.Promises.{allRuns, ridden, fed, said, SameStory, Story}
 use Rattle.calls.proofs.Chains.{put-out, call-steps, start-steps, stands}
@@ -27,7 +27,7 @@ use Rattle.calls.proofs.Struck.{struck, accepted-unrefused}
 
 module _ {R : Type 0} (K : Records R) (i : Instance) (f : Bytes → Bytes) where
   -- the blocks of a start and of all these calls
-  abbrev fedBy : Opening → List Call → List Blocks
+  abbrev fedBy : StartCall → List Call → List Blocks
   fedBy a cs = start i f (startIn a) .blocks ++ ridden K i f (begins K i f a) cs
 
   -- ---- the runs are counted by the list
@@ -55,7 +55,7 @@ module _ {R : Type 0} (K : Records R) (i : Instance) (f : Bytes → Bytes) where
       → allRuns (outcomes K i f x cs) ≡ allRuns (outcomes K i f x (accepted K i f x cs))
   struck-runs x cs h = done-runs x cs h ∙ ap allRuns (sym (struck K i f x cs h .outcomes))
 
-  fed-runs : (a : Opening) (cs : List Call) → Unrefused K i f a cs → openingOf K i f a .answer .runs + allRuns (outcomes K i f (begins K i f a) cs) ≡ length (fedBy a cs)
+  fed-runs : (a : StartCall) (cs : List Call) → Unrefused K i f a cs → startCallOf K i f a .answer .runs + allRuns (outcomes K i f (begins K i f a) cs) ≡ length (fedBy a cs)
   fed-runs a cs h =
       ap₂ (λ (m n : ℕ). m + n) (ap (λ (o : Outcome R). o .answer .runs) (start-leaves K i f a .done (h .start))) (calls-runs (begins K i f a) cs (h .calls))
       ∙ sym (length-append (start i f (startIn a) .blocks) (ridden K i f (begins K i f a) cs))
@@ -75,7 +75,7 @@ module _ {b w k : ℕ} (ok : Sound (solo b w k)) (f : Bytes → Bytes) {R : Type
         ap₂ (λ (o : Bytes) (l : List Message). plaintextOf (stepOf c) o ∷ l) (put-out K one f ok x c (h .0)) (ih .1 ∙ ap (λ (s : Steps). s .messages) z),
       )
 
-  chain-told : (a : Opening) (cs : List Call) → Unrefused K one f a cs
+  chain-told : (a : StartCall) (cs : List Call) → Unrefused K one f a cs
       → (ridden K one f (begins K one f a) cs ≡ defined one f a cs .blocks) × (said K one f (begins K one f a) cs ≡ defined one f a cs .messages)
   chain-told a cs h =
       let y = calls-told (begins K one f a) cs (h .calls) in
@@ -83,7 +83,7 @@ module _ {b w k : ℕ} (ok : Sound (solo b w k)) (f : Bytes → Bytes) {R : Type
       (y .0 ∙ ap (λ (s : Steps). s .blocks) z, y .1 ∙ ap (λ (s : Steps). s .messages) z)
 
   -- the blocks of a chain are those of the session of its messages
-  fed-session : (a : Opening) (cs : List Call) → Unrefused K one f a cs → fedBy K one f a cs ≡ sessionBlocks one f (startIn a) (said K one f (begins K one f a) cs)
+  fed-session : (a : StartCall) (cs : List Call) → Unrefused K one f a cs → fedBy K one f a cs ≡ sessionBlocks one f (startIn a) (said K one f (begins K one f a) cs)
   fed-session a cs h =
       let t = chain-told a cs h in
       ap (λ (l : List Blocks). start one f (startIn a) .blocks ++ l) (t .0)
@@ -91,24 +91,24 @@ module _ {b w k : ℕ} (ok : Sound (solo b w k)) (f : Bytes → Bytes) {R : Type
       ∙ ap (sessionBlocks one f (startIn a)) (sym (t .1))
 
   -- ---- the state is what the permutation makes of the list
-  fed-state : (a : Opening) (cs : List Call) → Unrefused K one f a cs → K .shows (endOf K one f (begins K one f a) cs) .state ∷ [] ≡ run one f (fresh one) (fedBy K one f a cs)
+  fed-state : (a : StartCall) (cs : List Call) → Unrefused K one f a cs → K .shows (endOf K one f (begins K one f a) cs) .state ∷ [] ≡ run one f (fresh one) (fedBy K one f a cs)
   fed-state a cs h =
       stands ok f K serves a cs h .states
       ∙ session-steps one ok f (startIn a) (map stepOf cs) .1
       ∙ ap (λ (l : List Blocks). run one f (fresh one) l) (ap (sessionBlocks one f (startIn a)) (sym (chain-told a cs h .1)) ∙ sym (fed-session a cs h))
 
   -- ---- equal lists, equal stories
-  keyed : (a : Opening) → openingOf K one f a .answer .number ≡ done → Keyed (startIn a)
+  keyed : (a : StartCall) → startCallOf K one f a .answer .number ≡ done → Keyed (startIn a)
   keyed a e = let h = start-allowed K one f a e in record { long = h .long; short = h .short }
 
-  same-said : (a : Opening) (cs : List Call) (d : Opening) (ds : List Call) → Unrefused K one f a cs → Unrefused K one f d ds → fedBy K one f a cs ≡ fedBy K one f d ds
+  same-said : (a : StartCall) (cs : List Call) (d : StartCall) (ds : List Call) → Unrefused K one f a cs → Unrefused K one f d ds → fedBy K one f a cs ≡ fedBy K one f d ds
       → (startIn a ≡ startIn d) × (said K one f (begins K one f a) cs ≡ said K one f (begins K one f d) ds)
   same-said a cs d ds h l e =
       same-messages b w k f ok (startIn a) (startIn d) (said K one f (begins K one f a) cs) (said K one f (begins K one f d) ds) (keyed a (h .start)) (keyed d (l .start))
       (sym (fed-session a cs h) ∙ e ∙ fed-session d ds l)
 
   -- a list that is the front of another: the same start, and the messages are the front of the other's
-  story-front : (a : Opening) (cs : List Call) (d : Opening) (ds : List Call) (rest : List Blocks) → Unrefused K one f a cs → Unrefused K one f d ds
+  story-front : (a : StartCall) (cs : List Call) (d : StartCall) (ds : List Call) (rest : List Blocks) → Unrefused K one f a cs → Unrefused K one f d ds
       → fedBy K one f a cs ++ rest ≡ fedBy K one f d ds
       → (startIn a ≡ startIn d) × ((others : List Message) × (said K one f (begins K one f a) cs ++ others ≡ said K one f (begins K one f d) ds))
   story-front a cs d ds rest h l e =
@@ -116,10 +116,10 @@ module _ {b w k : ℕ} (ok : Sound (solo b w k)) (f : Bytes → Bytes) {R : Type
       (ap (λ (x : List Blocks). x ++ rest) (sym (fed-session a cs h)) ∙ e ∙ fed-session d ds l)
 
   -- ---- of any chain in which no tag differs: what holds of its accepted calls
-  abbrev keep : Opening → List Call → List Call
+  abbrev keep : StartCall → List Call → List Call
   keep = acceptedOf K one f
 
-  same-story : (a : Opening) (cs : List Call) (d : Opening) (ds : List Call) → Unbroken K one f a cs → Unbroken K one f d ds → fed K one f a cs ≡ fed K one f d ds
+  same-story : (a : StartCall) (cs : List Call) (d : StartCall) (ds : List Call) → Unbroken K one f a cs → Unbroken K one f d ds → fed K one f a cs ≡ fed K one f d ds
       → SameStory K one f a cs d ds
   same-story a cs d ds h l e =
       let p = same-said a (keep a cs) d (keep d ds) (accepted-unrefused K one f a cs h) (accepted-unrefused K one f d ds l) e in
@@ -140,7 +140,7 @@ module _ {b w k : ℕ} (ok : Sound (solo b w k)) (f : Bytes → Bytes) {R : Type
             ap (λ (x : R). K .shows x .state ∷ []) (sym (struck K one f (begins K one f a) cs (h .calls) .session))
             ∙ fed-state a (keep a cs) (accepted-unrefused K one f a cs h);
         runs = λ a cs h.
-            ap (λ (n : ℕ). openingOf K one f a .answer .runs + n) (struck-runs K one f (begins K one f a) cs (h .calls))
+            ap (λ (n : ℕ). startCallOf K one f a .answer .runs + n) (struck-runs K one f (begins K one f a) cs (h .calls))
             ∙ fed-runs K one f a (keep a cs) (accepted-unrefused K one f a cs h);
         front = λ a cs d ds rest h l. story-front a (keep a cs) d (keep d ds) rest (accepted-unrefused K one f a cs h) (accepted-unrefused K one f d ds l);
       }

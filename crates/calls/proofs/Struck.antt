@@ -11,7 +11,7 @@ use Rattle.motorist.specs.Instance.{Instance}
 use Rattle.motorist.specs.Piston.{Bytes}
 use Rattle.calls.specs.Session.{Records}
 use Rattle.calls.specs.Outcome.{Outcome}
-use Rattle.calls.specs.Chain.{Call, Opening, callOf, outcomes, endOf, begins}
+use Rattle.calls.specs.Chain.{Call, StartCall, callOf, outcomes, endOf, begins}
 use Rattle.calls.specs.Words.{AllDone, NoneDiffers, onlyDone, Unrefused, Unbroken, accepted, acceptedOf}
 use Rattle.calls.specs.Promises.{Struck}
 use Rattle.calls.proofs.OneCall.{call-refused}
@@ -35,7 +35,7 @@ module _ {R : Type 0} (K : Records R) (i : Instance) (f : Bytes → Bytes) where
   differs-front x [] back h = tt
   differs-front x (c ∷ front) back h = (h .0, differs-front _ front back (h .1))
 
-  pub unbroken-front : (a : Opening) (front back : List Call) → Unbroken K i f a (front ++ back) → Unbroken K i f a front
+  pub unbroken-front : (a : StartCall) (front back : List Call) → Unbroken K i f a (front ++ back) → Unbroken K i f a front
   unbroken-front a front back h = record { start = h .start; calls = differs-front (begins K i f a) front back (h .calls) }
 
   -- ---- the first call is accepted, or struck
@@ -92,7 +92,7 @@ module _ {R : Type 0} (K : Records R) (i : Instance) (f : Bytes → Bytes) where
       go (suc n) e ih = struck-refused x c cs (λ d. omega (arith, d, e)) (h .0) ih
 
   -- the accepted calls of a chain are one of which none is refused
-  pub accepted-unrefused : (a : Opening) (cs : List Call) → Unbroken K i f a cs → Unrefused K i f a (acceptedOf K i f a cs)
+  pub accepted-unrefused : (a : StartCall) (cs : List Call) → Unbroken K i f a cs → Unrefused K i f a (acceptedOf K i f a cs)
   accepted-unrefused a cs h =
       record {
         start = h .start;
@@ -104,7 +104,7 @@ module _ {R : Type 0} (K : Records R) (i : Instance) (f : Bytes → Bytes) where
   all-accepted x [] h = refl
   all-accepted x (c ∷ cs) h = accepted-done x c cs (h .0) ∙ ap (λ (l : List Call). c ∷ l) (all-accepted (callOf K i f x c .session) cs (h .1))
 
-  pub unrefused-unbroken : (a : Opening) (cs : List Call) → Unrefused K i f a cs → Unbroken K i f a cs × (acceptedOf K i f a cs ≡ cs)
+  pub unrefused-unbroken : (a : StartCall) (cs : List Call) → Unrefused K i f a cs → Unbroken K i f a cs × (acceptedOf K i f a cs ≡ cs)
   unrefused-unbroken a cs h = (
     record { start = h .start; calls = none-differs (outcomes K i f (begins K i f a) cs) (h .calls) },
     all-accepted (begins K i f a) cs (h .calls),

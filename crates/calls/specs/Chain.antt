@@ -16,7 +16,7 @@ pub record Call : Type 0 where
   pub tag : Bytes
 
 -- what starts a chain
-pub record Opening : Type 0 where
+pub record StartCall : Type 0 where
   pub key : Bytes
   pub nonce : Bytes
   pub forgets : Bool
@@ -40,9 +40,9 @@ module _ {R : Type 0} (K : Records R) (i : Instance) (f : Bytes → Bytes) where
   endOf x [] = x
   endOf x (c ∷ cs) = endOf (callOf x c .session) cs
 
-  abbrev pub openingOf : Opening → Outcome R
-  openingOf a = startOf K i f (a .key) (a .nonce) (a .forgets) (a .choice) (a .tag)
+  abbrev pub startCallOf : StartCall → Outcome R
+  startCallOf a = startOf K i f (a .key) (a .nonce) (a .forgets) (a .choice) (a .tag)
 
   -- the session that a start gives
-  abbrev pub begins : Opening → R
-  begins a = openingOf a .session
+  abbrev pub begins : StartCall → R
+  begins a = startCallOf a .session

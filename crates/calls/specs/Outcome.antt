@@ -15,8 +15,7 @@ use Rattle.table.specs.declared.StartTag.the-variants.{None, Produced, Checked}
 use Rattle.slices.specs.Same.{sameBytes}
 use Rattle.motorist.specs.Instance.{Instance, tagLength}
 use Rattle.motorist.specs.Piston.{Bytes}
-use Rattle.motorist.specs.Engine as engine
-use Rattle.motorist.specs.Engine.{Ride}
+use Rattle.motorist.specs.Engine.{firstPiston, Ride}
 use Rattle.motorist.specs.Motorist.{Message, taken, tag, start, wrap, unwrap}
 use Rattle.calls.specs.Session.{View, Records, live}
 
@@ -58,13 +57,13 @@ startRules k n choice g =
 abbrev pub wrapRules : View → Message → (out g : Bytes) → List Rule
 wrapRules v m out g = messageRules (v .phase) (v .at) (length (m .text)) (length (m .meta)) (length out) (length g)
 
-abbrev pub openRules : (key nonce : Bytes) → StartTag → Bytes → List Rule
-openRules key nonce choice g = startRules (length key) (length nonce) choice (length g)
+abbrev pub startRulesOf : (key nonce : Bytes) → StartTag → Bytes → List Rule
+startRulesOf key nonce choice g = startRules (length key) (length nonce) choice (length g)
 
 -- ---- what is done, to a session whose record is of the kind K
 -- the first Piston's state after a ride
 abbrev pub endState : Ride → Bytes
-endState r = engine.first (r .states)
+endState r = firstPiston (r .states)
 
 module _ {R : Type 0} (K : Records R) where
   -- a message was wrapped, its text of t bytes
@@ -121,6 +120,6 @@ module _ {R : Type 0} (K : Records R) where
     -- a start takes no session and gives a new one; it has no output
     unfoldable pub startOf : (key nonce : Bytes) → Bool → StartTag → Bytes → Outcome R
     startOf key nonce forgets choice g =
-        let n : ℕ = first (openRules key nonce choice g) in
+        let n : ℕ = first (startRulesOf key nonce choice g) in
         let r : Ride = start i f (record { key = key; nonce = nonce; tagged = asked choice; forgets = forgets }) in
         ifDone n (started choice r g) (refused n (K .unstarted) [] g)

@@ -17,8 +17,8 @@ use Rattle.motorist.specs.Engine.{Blocks, Ride, run}
 use Rattle.motorist.specs.Motorist.{Message, taken, tag, fresh, start, wrap, unwrap, message}
 use Rattle.motorist.specs.Session.{Step, mirrorOf, plaintextOf, withText, Steps}
 use Rattle.calls.specs.Session.{View, Records}
-use Rattle.calls.specs.Outcome.{Outcome, answer, refused, wrapRules, openRules, wrapped, begun, wrapOf, unwrapOf}
-use Rattle.calls.specs.Chain.{Call, Opening, callOf, outcomes, endOf, openingOf, begins}
+use Rattle.calls.specs.Outcome.{Outcome, answer, refused, wrapRules, startRulesOf, wrapped, begun, wrapOf, unwrapOf}
+use Rattle.calls.specs.Chain.{Call, StartCall, callOf, outcomes, endOf, startCallOf, begins}
 use Rattle.calls.specs.Words.{textLength, putOut, rideOf, NoneDiffers, onlyDone, Unrefused, Unbroken, accepted, acceptedOf, startIn, stepOf, defined, textStart, Stands}
 
 -- ---- demand 1: the conditions of an unwrap and of a start end with this one, that the tag differs
@@ -35,14 +35,14 @@ module _ (i : Instance) (f : Bytes → Bytes) where
   abbrev pub unwrapDiffers : View → Message → Bytes → Bool
   unwrapDiffers v c g = not (sameBytes (tag (unwrap i f (v .state ∷ []) (v .at) c .states)) g)
 
-  abbrev pub startDiffers : Opening → Bool
+  abbrev pub startDiffers : StartCall → Bool
   startDiffers a = checks (a .choice) && not (sameBytes (tag (start i f (startIn a) .states)) (a .tag))
 
   abbrev pub unwrapRules : View → Message → (g out : Bytes) → List Rule
   unwrapRules v c g out = wrapRules v c out g ++ tagRule (unwrapDiffers v c g)
 
-  abbrev pub openingRules : Opening → List Rule
-  openingRules a = openRules (a .key) (a .nonce) (a .choice) (a .tag) ++ tagRule (startDiffers a)
+  abbrev pub startCallRules : StartCall → List Rule
+  startCallRules a = startRulesOf (a .key) (a .nonce) (a .choice) (a .tag) ++ tagRule (startDiffers a)
 
 -- the tag buffer g after a start: where a tag is asked, the tag
 abbrev pub held : Bool → Ride → Bytes → Bytes
@@ -86,16 +86,16 @@ module _ {R : Type 0} (K : Records R) (i : Instance) (f : Bytes → Bytes) where
     -- a number is answered exactly when its condition holds and none before it does, and 0 exactly when none does
     pub wrap-exactly : (x : R) (m : Message) (out g : Bytes) → Exact (wrapOf K i f x m out g .answer .number) (wrapRules (K .shows x) m out g)
     pub unwrap-exactly : (x : R) (c : Message) (g out : Bytes) → Exact (unwrapOf K i f x c g out .answer .number) (unwrapRules i f (K .shows x) c g out)
-    pub start-exactly : (a : Opening) → Exact (openingOf K i f a .answer .number) (openingRules i f a)
+    pub start-exactly : (a : StartCall) → Exact (startCallOf K i f a .answer .number) (startCallRules i f a)
     -- what each answer leaves
     pub wrap-leaves : (x : R) (m : Message) (out g : Bytes)
         → WrapLeaves K (wrapOf K i f x m out g) x (wrap i f (K .shows x .state ∷ []) (K .shows x .at) m) (length (m .text)) out g
     pub unwrap-leaves : (x : R) (c : Message) (g out : Bytes)
         → UnwrapLeaves K (unwrapOf K i f x c g out) x (unwrap i f (K .shows x .state ∷ []) (K .shows x .at) c) (length (c .text)) out g
-    pub start-leaves : (a : Opening) → StartLeaves K (openingOf K i f a) (a .choice) (start i f (startIn a)) (a .tag)
+    pub start-leaves : (a : StartCall) → StartLeaves K (startCallOf K i f a) (a .choice) (start i f (startIn a)) (a .tag)
     -- a wrong tag closes the session for good, at an unwrap or at a start that checks it; closed too are a session never started, and one whose text start is neither 0 nor 16
     pub call-closes : (x : R) (c : Call) → callOf K i f x c .answer .number ≡ tag-differs → Closed (callOf K i f x c .session)
-    pub start-closes : (a : Opening) → openingOf K i f a .answer .number ≡ tag-differs → Closed (begins K i f a)
+    pub start-closes : (a : StartCall) → startCallOf K i f a .answer .number ≡ tag-differs → Closed (begins K i f a)
     pub unstarted-closed : Closed (K .unstarted)
     pub elsewhere-closed : (x : R) → (K .shows x .at ≡ 0 → ⊥) → (K .shows x .at ≡ tagLength → ⊥) → Closed x
 
@@ -120,11 +120,11 @@ module _ {R : Type 0} (K : Records R) (i : Instance) (f : Bytes → Bytes) where
     pub session : endOf K i f x (accepted K i f x cs) ≡ endOf K i f x cs
 
   -- the definition's ride of the call c, after the calls of front
-  abbrev pub rideAt : Opening → List Call → Call → Ride
+  abbrev pub rideAt : StartCall → List Call → Call → Ride
   rideAt a front c = message i f (c .decrypt) (defined i f a front .states) (textStart (taken (asked (a .choice))) front) (c .message)
 
   -- the call c after the calls of front, of which those that were accepted count
-  pub record RightAt (a : Opening) (front : List Call) (c : Call) : Type 0 where
+  pub record RightAt (a : StartCall) (front : List Call) (c : Call) : Type 0 where
     -- with that ride as its last step, the definition goes from what was accepted to that and c
     pub definition : defined i f a (acceptedOf K i f a front ++ (c ∷ [])) ≡ andThen (defined i f a (acceptedOf K i f a front)) (stepOf c) (rideAt a (acceptedOf K i f a front) c)
     -- the call is made on the definition's session, and gives what the ride gives; of its output, the bytes beyond the text stay
@@ -133,15 +133,15 @@ module _ {R : Type 0} (K : Records R) (i : Instance) (f : Bytes → Bytes) where
 
   pub record Right : Type 0 where
     -- the start, where it is not refused
-    pub opening : (a : Opening) → openingOf K i f a .answer .number ≡ done
-        → openingOf K i f a ≡ begun K (start i f (startIn a)) (taken (asked (a .choice))) (held (asked (a .choice)) (start i f (startIn a)) (a .tag))
+    pub start : (a : StartCall) → startCallOf K i f a .answer .number ≡ done
+        → startCallOf K i f a ≡ begun K (start i f (startIn a)) (taken (asked (a .choice))) (held (asked (a .choice)) (start i f (startIn a)) (a .tag))
     -- where no tag differs, refused calls can be struck
     pub struck : (x : R) (cs : List Call) → NoneDiffers (outcomes K i f x cs) → Struck x cs
     -- and in such a chain the call c after any front of it, if it is done, is right
-    pub steps : (a : Opening) (front : List Call) (c : Call) (back : List Call) → Unbroken K i f a (front ++ (c ∷ back))
+    pub steps : (a : StartCall) (front : List Call) (c : Call) (back : List Call) → Unbroken K i f a (front ++ (c ∷ back))
         → callOf K i f (endOf K i f (begins K i f a) front) c .answer .number ≡ done → RightAt a front c
     -- a chain of which none is refused is one, and all its calls are accepted
-    pub unrefused : (a : Opening) (cs : List Call) → Unrefused K i f a cs → Unbroken K i f a cs × (acceptedOf K i f a cs ≡ cs)
+    pub unrefused : (a : StartCall) (cs : List Call) → Unrefused K i f a cs → Unbroken K i f a cs × (acceptedOf K i f a cs ≡ cs)
 
 -- ---- demand 2, the partner: another side that starts alike, and unwraps what the first side wrapped, or wraps what that unwraps
 -- of a step that put out the bytes o, the message in ciphertext
@@ -196,15 +196,15 @@ module _ {R : Type 0} (K : Records R) (i : Instance) (f : Bytes → Bytes) where
     pub session : callOf K i f y p .session ≡ callOf K i f x c .session
 
   -- the partner's start: key, nonce and choices alike; a tag buffer that it is to fill has 16 bytes, and a tag that it is to check is the first side's
-  pub record StartsAlike (a p : Opening) : Type 0 where
+  pub record StartsAlike (a p : StartCall) : Type 0 where
     pub key : p .key ≡ a .key
     pub nonce : p .nonce ≡ a .nonce
     pub forgets : p .forgets ≡ a .forgets
     pub tagged : asked (p .choice) ≡ asked (a .choice)
     pub lent : p .choice ≡ Produced → length (p .tag) ≡ tagLength
-    pub given : p .choice ≡ Checked → p .tag ≡ openingOf K i f a .tag
+    pub given : p .choice ≡ Checked → p .tag ≡ startCallOf K i f a .tag
 
-  pub record Partnered (a : Opening) (cs : List Call) (p : Opening) (ps : List Call) : Type 0 where
+  pub record Partnered (a : StartCall) (cs : List Call) (p : StartCall) (ps : List Call) : Type 0 where
     -- no tag differs at the partner's
     pub unbroken : Unbroken K i f p ps
     -- the records are equal from the start on; at every accepted call the two agree; and the records are equal at the end
@@ -228,14 +228,14 @@ module _ {R : Type 0} (K : Records R) (i : Instance) (f : Bytes → Bytes) where
 
   pub record Partner : Type 0 where
     -- with refusals in between, of either side, but no tag that differs at the first side's
-    pub in-step : (a : Opening) (cs : List Call) (p : Opening) (ps : List Call) → Unbroken K i f a cs → StartsAlike a p
+    pub in-step : (a : StartCall) (cs : List Call) (p : StartCall) (ps : List Call) → Unbroken K i f a cs → StartsAlike a p
         → InStep (begins K i f a) (acceptedOf K i f a cs) (begins K i f p) ps → Partnered a cs p ps
     -- without: where none of the first side's is refused and every call of the partner joins, none of the partner's is refused
-    pub unrefused : (a : Opening) (cs : List Call) (p : Opening) (ps : List Call) → Unrefused K i f a cs → StartsAlike a p
+    pub unrefused : (a : StartCall) (cs : List Call) (p : StartCall) (ps : List Call) → Unrefused K i f a cs → StartsAlike a p
         → Beside Joined (begins K i f a) cs (begins K i f p) ps
         → Unrefused K i f p ps × (begins K i f p ≡ begins K i f a) × Beside Agree (begins K i f a) cs (begins K i f p) ps
     -- two-way talk: where at each step one side's wrap is done and the other is handed it, every call of both sides is done, and the records stay equal
-    pub talk : (a : Opening) (cs : List Call) (p : Opening) (ps : List Call) → openingOf K i f a .answer .number ≡ done → StartsAlike a p
+    pub talk : (a : StartCall) (cs : List Call) (p : StartCall) (ps : List Call) → startCallOf K i f a .answer .number ≡ done → StartsAlike a p
         → Beside Talks (begins K i f a) cs (begins K i f p) ps
         → Unrefused K i f a cs × Unrefused K i f p ps × (begins K i f p ≡ begins K i f a) × Beside Heard (begins K i f a) cs (begins K i f p) ps
 
@@ -252,7 +252,7 @@ module _ {R : Type 0} (K : Records R) (i : Instance) (f : Bytes → Bytes) where
   ridden x (c ∷ cs) = rideOf i f (K .shows x) c .blocks ++ ridden (callOf K i f x c .session) cs
 
   -- the blocks of a chain: those of its start, and of the calls that were accepted
-  abbrev pub fed : Opening → List Call → List Blocks
+  abbrev pub fed : StartCall → List Call → List Blocks
   fed a cs = start i f (startIn a) .blocks ++ ridden (begins K i f a) (acceptedOf K i f a cs)
 
   -- the messages of calls in plaintext, as it was given or put out
@@ -261,11 +261,11 @@ module _ {R : Type 0} (K : Records R) (i : Instance) (f : Bytes → Bytes) where
   said x (c ∷ cs) = plaintextOf (stepOf c) (putOut c (callOf K i f x c)) ∷ said (callOf K i f x c .session) cs
 
   -- those of a chain: of the calls that were accepted
-  abbrev pub storyOf : Opening → List Call → List Message
+  abbrev pub storyOf : StartCall → List Call → List Message
   storyOf a cs = said (begins K i f a) (acceptedOf K i f a cs)
 
   -- two chains that start alike and say the same; a message is its plaintext, its metadata and whether it is to be forgotten
-  pub record SameStory (a : Opening) (cs : List Call) (d : Opening) (ds : List Call) : Type 0 where
+  pub record SameStory (a : StartCall) (cs : List Call) (d : StartCall) (ds : List Call) : Type 0 where
     pub key : a .key ≡ d .key
     pub nonce : a .nonce ≡ d .nonce
     pub tagged : asked (a .choice) ≡ asked (d .choice)
@@ -275,14 +275,14 @@ module _ {R : Type 0} (K : Records R) (i : Instance) (f : Bytes → Bytes) where
   -- of chains in which no tag differs, refusals in between or not
   pub record Story : Type 0 where
     -- equal lists, equal stories
-    pub told : (a : Opening) (cs : List Call) (d : Opening) (ds : List Call) → Unbroken K i f a cs → Unbroken K i f d ds → fed a cs ≡ fed d ds → SameStory a cs d ds
+    pub told : (a : StartCall) (cs : List Call) (d : StartCall) (ds : List Call) → Unbroken K i f a cs → Unbroken K i f d ds → fed a cs ≡ fed d ds → SameStory a cs d ds
     -- the list is that of the definition's rides, the very ones that demand 2 names
-    pub blocks : (a : Opening) (cs : List Call) → Unbroken K i f a cs → fed a cs ≡ start i f (startIn a) .blocks ++ defined i f a (acceptedOf K i f a cs) .blocks
+    pub blocks : (a : StartCall) (cs : List Call) → Unbroken K i f a cs → fed a cs ≡ start i f (startIn a) .blocks ++ defined i f a (acceptedOf K i f a cs) .blocks
     -- the record's bytes are the permutation run over that very list, from all zeros
-    pub state : (a : Opening) (cs : List Call) → Unbroken K i f a cs → K .shows (endOf K i f (begins K i f a) cs) .state ∷ [] ≡ run i f (fresh i) (fed a cs)
+    pub state : (a : StartCall) (cs : List Call) → Unbroken K i f a cs → K .shows (endOf K i f (begins K i f a) cs) .state ∷ [] ≡ run i f (fresh i) (fed a cs)
     -- and the list has as many blocks as the calls, the refused ones too, answered runs
-    pub runs : (a : Opening) (cs : List Call) → Unbroken K i f a cs → openingOf K i f a .answer .runs + allRuns (outcomes K i f (begins K i f a) cs) ≡ length (fed a cs)
+    pub runs : (a : StartCall) (cs : List Call) → Unbroken K i f a cs → startCallOf K i f a .answer .runs + allRuns (outcomes K i f (begins K i f a) cs) ≡ length (fed a cs)
     -- a list that is the front of another: the same start, and the messages are the front of the other's
-    pub front : (a : Opening) (cs : List Call) (d : Opening) (ds : List Call) (rest : List Blocks) → Unbroken K i f a cs → Unbroken K i f d ds
+    pub front : (a : StartCall) (cs : List Call) (d : StartCall) (ds : List Call) (rest : List Blocks) → Unbroken K i f a cs → Unbroken K i f d ds
         → fed a cs ++ rest ≡ fed d ds
         → (startIn a ≡ startIn d) × ((others : List Message) × (storyOf a cs ++ others ≡ storyOf d ds))

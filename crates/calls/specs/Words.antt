@@ -14,7 +14,7 @@ use Rattle.motorist.specs.Motorist.{Start, taken, start, message}
 use Rattle.motorist.specs.Session.{Step, step, Steps, steps}
 use Rattle.calls.specs.Session.{View, Records}
 use Rattle.calls.specs.Outcome.{Outcome}
-use Rattle.calls.specs.Chain.{Call, Opening, callOf, outcomes, openingOf, begins}
+use Rattle.calls.specs.Chain.{Call, StartCall, callOf, outcomes, startCallOf, begins}
 
 -- ---- a call
 abbrev pub textLength : Call → ℕ
@@ -46,13 +46,13 @@ onlyDone (o ∷ os) = ifDone (o .answer .number) (o ∷ onlyDone os) (onlyDone o
 
 module _ {R : Type 0} (K : Records R) (i : Instance) (f : Bytes → Bytes) where
   -- a start and then calls, each on the session that the one before left, and none refused
-  pub record Unrefused (a : Opening) (cs : List Call) : Type 0 where
-    pub start : openingOf K i f a .answer .number ≡ done
+  pub record Unrefused (a : StartCall) (cs : List Call) : Type 0 where
+    pub start : startCallOf K i f a .answer .number ≡ done
     pub calls : AllDone (outcomes K i f (begins K i f a) cs)
 
   -- the same, but calls in between may be refused, as long as no tag differs: by an output too short, a text too long, and the like
-  pub record Unbroken (a : Opening) (cs : List Call) : Type 0 where
-    pub start : openingOf K i f a .answer .number ≡ done
+  pub record Unbroken (a : StartCall) (cs : List Call) : Type 0 where
+    pub start : startCallOf K i f a .answer .number ≡ done
     pub calls : NoneDiffers (outcomes K i f (begins K i f a) cs)
 
   -- of the calls cs from the session x on, those that are done, in their order: the refused ones are struck
@@ -63,18 +63,18 @@ module _ {R : Type 0} (K : Records R) (i : Instance) (f : Bytes → Bytes) where
       ifDone (o .answer .number) (c ∷ accepted (o .session) cs) (accepted (o .session) cs)
 
   -- the accepted calls of a chain
-  abbrev pub acceptedOf : Opening → List Call → List Call
+  abbrev pub acceptedOf : StartCall → List Call → List Call
   acceptedOf a cs = accepted (begins K i f a) cs
 
 -- ---- in motorist's words
-abbrev pub startIn : Opening → Start
+abbrev pub startIn : StartCall → Start
 startIn a = record { key = a .key; nonce = a .nonce; tagged = asked (a .choice); forgets = a .forgets }
 
 abbrev pub stepOf : Call → Step
 stepOf c = step (c .decrypt) (c .message)
 
 -- the session of a chain, as it is defined
-abbrev pub defined : (i : Instance) (f : Bytes → Bytes) → Opening → List Call → Steps
+abbrev pub defined : (i : Instance) (f : Bytes → Bytes) → StartCall → List Call → Steps
 defined i f a cs = steps i f (start i f (startIn a) .states) (taken (asked (a .choice))) (map stepOf cs)
 
 -- where the text after the calls starts, the first one's starting from `at` on

@@ -1,9 +1,9 @@
 // Headers: each case is a header, the 24 bytes that say it, and the number expected of writing the one and of reading the other.
 ghost use Prim.Native.Nat.{_≤_};
 ghost use lib.ListN.{length};
-use crate::tally;
-use crate::tally::Tally;
+use crate::group;
 use dip::Header;
+use trials::tally::Tally;
 
 // A well of the usual kind, and its bytes.
 fn usual() -> Header {
@@ -73,7 +73,7 @@ fn wrote(t: Tally, h: Header, raw: [u8; 24], expected: u8) -> Tally {
     let mut out = [0xaau8; 24];
     let number = dip::write_header(h, &mut out);
     let then = bytes_left(raw, expected);
-    tally::count(t, number, expected, slices::same(&out, &then))
+    group::count(t, number, expected, slices::same(&out, &then))
 }
 
 // Read: the header where it is done, all fields zero where it is refused.
@@ -84,7 +84,7 @@ fn read(t: Tally, h: Header, raw: [u8; 24], expected: u8) -> Tally {
     } else {
         same_header(found.header, nothing())
     };
-    tally::count(t, found.number, expected, right)
+    group::count(t, found.number, expected, right)
 }
 
 fn both(t: Tally, h: Header, raw: [u8; 24], expected: u8) -> Tally {
@@ -151,7 +151,7 @@ fn datum(t: Tally, datum: i32, bytes: [u8; 4], expected: u8) -> Tally {
 }
 
 pub fn names(t: Tally) -> Tally {
-    tally::begin(b"well name");
+    group::begin(b"well name");
     let a = name(t, [0x20, 0, 0, 0, 0, 0, 0, 0, 0, 0, 0, 0], 10);
     let b = name(a, [0x21, 0, 0, 0, 0, 0, 0, 0, 0, 0, 0, 0], 0);
     let c = name(b, [0x7e, 0, 0, 0, 0, 0, 0, 0, 0, 0, 0, 0], 0);
@@ -178,17 +178,17 @@ pub fn names(t: Tally) -> Tally {
     );
     let h = name(g, [0x57, 0, 0x31, 0, 0, 0, 0, 0, 0, 0, 0, 0], 10);
     let i = name(h, [0, 0x57, 0, 0, 0, 0, 0, 0, 0, 0, 0, 0], 10);
-    tally::end();
+    group::end();
     i
 }
 
 pub fn boreholes(t: Tally) -> Tally {
-    tally::begin(b"borehole number");
+    group::begin(b"borehole number");
     let a = borehole(t, 0, [0, 0, 0, 0], 11);
     let b = borehole(a, 1, [1, 0, 0, 0], 0);
     let c = borehole(b, 0x0102_0304, [4, 3, 2, 1], 0);
     let d = borehole(c, 0xffff_ffff, [0xff, 0xff, 0xff, 0xff], 0);
-    tally::end();
+    group::end();
     d
 }
 
@@ -200,23 +200,23 @@ fn limits_of_dates(t: Tally) -> Tally {
 }
 
 pub fn dates(t: Tally) -> Tally {
-    tally::begin(b"year and month");
+    group::begin(b"year and month");
     let d = limits_of_dates(t);
     let e = date(d, 2024, 0, [0xe8, 0x07], 12);
     let f = date(e, 2024, 13, [0xe8, 0x07], 12);
     let g = date(f, 0, 6, [0, 0], 12);
     let h = date(g, 65_535, 255, [0xff, 0xff], 12);
-    tally::end();
+    group::end();
     h
 }
 
 pub fn counts(t: Tally) -> Tally {
-    tally::begin(b"count of readings");
+    group::begin(b"count of readings");
     let a = count(t, 0, 0);
     let b = count(a, 31, 0);
     let c = count(b, 32, 13);
     let d = count(c, 255, 13);
-    tally::end();
+    group::end();
     d
 }
 
@@ -228,13 +228,13 @@ fn low_datums(t: Tally) -> Tally {
 }
 
 pub fn datums(t: Tally) -> Tally {
-    tally::begin(b"datum");
+    group::begin(b"datum");
     let d = low_datums(t);
     let e = datum(d, 9_000_000, [0x40, 0x54, 0x89, 0x00], 0);
     let f = datum(e, 9_000_001, [0x41, 0x54, 0x89, 0x00], 14);
     let g = datum(f, 2_147_483_647, [0xff, 0xff, 0xff, 0x7f], 14);
     let h = datum(g, -2_147_483_648, [0, 0, 0, 0x80], 14);
-    tally::end();
+    group::end();
     h
 }
 
@@ -252,20 +252,20 @@ fn faulty(t: Tally, borehole: u32, bytes: [u8; 4], month: u8, count: u8, expecte
 }
 
 pub fn orders(t: Tally) -> Tally {
-    tally::begin(b"several faults");
+    group::begin(b"several faults");
     let a = both(t, nothing(), [0; 24], 10);
     let b = faulty(a, 0, [0, 0, 0, 0], 13, 32, 11);
     let c = faulty(b, 1, [1, 0, 0, 0], 13, 32, 12);
     let d = faulty(c, 1, [1, 0, 0, 0], 12, 32, 13);
     let e = faulty(d, 1, [1, 0, 0, 0], 12, 31, 14);
-    tally::end();
+    group::end();
     e
 }
 
 // Bytes given, and bytes lent, of another length than 24.
 fn given(t: Tally, bytes: &[u8], expected: u8) -> Tally {
     let found = dip::read_header(bytes);
-    tally::count(
+    group::count(
         t,
         found.number,
         expected,
@@ -273,7 +273,7 @@ fn given(t: Tally, bytes: &[u8], expected: u8) -> Tally {
     )
 }
 
-fn cut(t: Tally, n: usize, expected: u8) -> Tally
+fn of_length(t: Tally, n: usize, expected: u8) -> Tally
     requires { ⌜ n ≤ 24 ⌝ }
 {
     let raw = USUAL;
@@ -291,30 +291,30 @@ fn lent(t: Tally, h: Header, n: usize) -> Tally
 {
     let mut out = [0xaau8; 25];
     let number = write_part(h, &mut out, n);
-    tally::count(t, number, 9, slices::same(&out, &[0xaa; 25]))
+    group::count(t, number, 9, slices::same(&out, &[0xaa; 25]))
 }
 
 pub fn lengths(t: Tally) -> Tally {
-    tally::begin(b"header length");
-    let a = cut(t, 0, 9);
-    let b = cut(a, 23, 9);
-    let c = cut(b, 24, 0);
+    group::begin(b"header length");
+    let a = of_length(t, 0, 9);
+    let b = of_length(a, 23, 9);
+    let c = of_length(b, 24, 0);
     let d = given(c, &[0; 25], 9);
     let e = lent(d, usual(), 0);
     let f = lent(e, usual(), 23);
     let g = lent(f, nothing(), 25);
-    tally::end();
+    group::end();
     g
 }
 
 // One series: 1 where the names agree, whatever else differs.
 fn one(t: Tally, a: Header, b: Header, expected: u8) -> Tally {
     let number = if dip::same_series(a, b) { 1 } else { 0 };
-    tally::count(t, number, expected, true)
+    group::count(t, number, expected, true)
 }
 
 pub fn series(t: Tally) -> Tally {
-    tally::begin(b"one series");
+    group::begin(b"one series");
     let u = usual();
     let mut other = usual();
     other.borehole = 1;
@@ -328,6 +328,6 @@ pub fn series(t: Tally) -> Tally {
     last.name = [0x42, 0x4f, 0x52, 0x45, 0x2d, 0x37, 0, 0, 0, 0, 0, 1];
     let c = one(b, u, last, 0);
     let d = one(c, nothing(), usual(), 0);
-    tally::end();
+    group::end();
     d
 }

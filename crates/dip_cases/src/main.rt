@@ -1,11 +1,14 @@
 // Tries the dip's calls on both sides of every limit and prints what each answered, a line for each group of cases.
 // What is expected stands in the cases as numbers and bytes of their own: nothing of the library makes it.
+mod group;
 mod header;
 mod readings;
-mod tally;
+
+use trials::tally::none;
+use trials::tally::tell;
 
 fn main() {
-    let a = header::names(tally::none());
+    let a = header::names(none());
     let b = header::boreholes(a);
     let c = header::dates(b);
     let d = header::counts(c);
@@ -17,5 +20,5 @@ fn main() {
     let j = readings::sizes(i);
     let k = readings::lengths(j);
     let l = readings::months(k);
-    tally::show(b"all", l);
+    tell(b"all", l);
 }

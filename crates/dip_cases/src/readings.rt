@@ -1,6 +1,6 @@
 // Readings: cases of both calls, with what has to stand in the lent run and in the lent bytes after each.
-use crate::tally;
-use crate::tally::Tally;
+use crate::group;
+use trials::tally::Tally;
 
 fn same_run(a: &[i32], b: &[i32]) -> bool {
     if a.len() != b.len() {
@@ -24,7 +24,7 @@ fn read(
     expected: u8,
 ) -> Tally {
     let answer = dip::read_readings(count, bytes, into);
-    tally::count(t, answer.number, expected, same_run(into, then))
+    group::count(t, answer.number, expected, same_run(into, then))
 }
 
 fn wrote(
@@ -36,7 +36,7 @@ fn wrote(
     expected: u8,
 ) -> Tally {
     let answer = dip::write_readings(count, from, bytes);
-    tally::count(t, answer.number, expected, slices::same(bytes, then))
+    group::count(t, answer.number, expected, slices::same(bytes, then))
 }
 
 // What a lent run and lent bytes hold afterwards: those expected where it is done, what they held where it is refused.
@@ -69,7 +69,7 @@ fn level(t: Tally, z: i32, b: [u8; 4], expected: u8) -> Tally {
 }
 
 pub fn levels(t: Tally) -> Tally {
-    tally::begin(b"reading");
+    group::begin(b"reading");
     let a = level(t, -2_000_001, [0x7f, 0x7b, 0xe1, 0xff], 16);
     let b = level(a, -2_000_000, [0x80, 0x7b, 0xe1, 0xff], 0);
     let c = level(b, 0, [0, 0, 0, 0], 0);
@@ -79,7 +79,7 @@ pub fn levels(t: Tally) -> Tally {
     let g = level(f, 2_147_483_647, [0xff, 0xff, 0xff, 0x7f], 16);
     let h = level(g, -2_147_483_648, [0, 0, 0, 0x80], 0);
     let i = level(h, -2_147_483_647, [1, 0, 0, 0x80], 16);
-    tally::end();
+    group::end();
     i
 }
 
@@ -102,13 +102,13 @@ fn write_some(count: usize, from: &[i32], room: usize, bytes: &mut [u8], size: u
 fn read_refused(t: Tally, room: usize, count: usize, size: usize, expected: u8) -> Tally {
     let mut run = [5i32; 40];
     let number = read_some(count, &[0xaa; 160], size, &mut run, room);
-    tally::count(t, number, expected, same_run(&run, &[5; 40]))
+    group::count(t, number, expected, same_run(&run, &[5; 40]))
 }
 
 fn write_refused(t: Tally, room: usize, count: usize, size: usize, expected: u8) -> Tally {
     let mut bytes = [0xaau8; 160];
     let number = write_some(count, &[5; 40], room, &mut bytes, size);
-    tally::count(t, number, expected, slices::same(&bytes, &[0xaa; 160]))
+    group::count(t, number, expected, slices::same(&bytes, &[0xaa; 160]))
 }
 
 fn refused(t: Tally, room: usize, count: usize, size: usize, expected: u8) -> Tally {
@@ -118,24 +118,24 @@ fn refused(t: Tally, room: usize, count: usize, size: usize, expected: u8) -> Ta
 
 // The last two counts are such that four times the count is no number of the machine; the last would be 4 there.
 pub fn sizes(t: Tally) -> Tally {
-    tally::begin(b"run and count");
+    group::begin(b"run and count");
     let a = refused(t, 30, 31, 124, 6);
     let b = refused(a, 31, 32, 128, 6);
     let c = refused(b, 32, 32, 128, 13);
     let d = refused(c, 32, 32, 127, 13);
     let e = refused(d, 0, 0xffff_ffff_ffff_ffff, 0, 6);
     let f = refused(e, 1, 0x4000_0000_0000_0001, 4, 6);
-    tally::end();
+    group::end();
     f
 }
 
 pub fn lengths(t: Tally) -> Tally {
-    tally::begin(b"readings length");
+    group::begin(b"readings length");
     let a = refused(t, 31, 31, 123, 15);
     let b = refused(a, 31, 31, 125, 15);
     let c = refused(b, 31, 31, 0, 15);
     let d = refused(c, 0, 0, 1, 15);
-    tally::end();
+    group::end();
     d
 }
 
@@ -163,9 +163,9 @@ fn full_month(t: Tally) -> Tally {
 }
 
 pub fn months(t: Tally) -> Tally {
-    tally::begin(b"whole months");
+    group::begin(b"whole months");
     let a = no_visit(t);
     let b = full_month(a);
-    tally::end();
+    group::end();
     b
 }

@@ -47,7 +47,7 @@ fn run(a: [u32; 25], rounds: usize) -> [u32; 25]
     let mut b = a;
     let mut ir = all - rounds;
     while ir < all {
-        let next = round(b, cut(constants[ir]));
+        let next = round(b, narrowed(constants[ir]));
         b = next;
         ir += 1;
     }
@@ -55,7 +55,7 @@ fn run(a: [u32; 25], rounds: usize) -> [u32; 25]
 }
 
 // A constant of the table as a lane: its lowest 32 bits.
-fn cut(k: u64) -> u32
+fn narrowed(k: u64) -> u32
     ensures { λ r. ⌜ r ≡ k % 2 ^ 32 ⌝ }
 {
     (k % 0x1_0000_0000) as u32

@@ -47,7 +47,7 @@ fn run(a: [u64; 25], rounds: usize) -> [u64; 25]
     let mut b = a;
     let mut ir = all - rounds;
     while ir < all {
-        let next = round(b, cut(constants[ir]));
+        let next = round(b, narrowed(constants[ir]));
         b = next;
         ir += 1;
     }
@@ -55,7 +55,7 @@ fn run(a: [u64; 25], rounds: usize) -> [u64; 25]
 }
 
 // A constant of the table as a lane: its lowest 64 bits.
-fn cut(k: u64) -> u64
+fn narrowed(k: u64) -> u64
     ensures { λ r. ⌜ r ≡ k % 2 ^ 64 ⌝ }
 {
     k

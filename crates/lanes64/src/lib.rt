@@ -24,7 +24,7 @@ pub fn zero() -> Lanes
 
 // The first n lanes' worth of s xored in from lane q on. Where bytes go in, the lanes are changed in place: a copy for each run
 // of bytes would cost about a seventh of the speed.
-fn absorb_whole(lanes: &mut Lanes, q: usize, n: usize, s: &[u8])
+fn xor_in_whole(lanes: &mut Lanes, q: usize, n: usize, s: &[u8])
     requires { ⌜ (length (now lanes) ≡ 25) × (q + n ≤ 25) × (8 * n ≤ length (now s)) ⌝ }
     ensures { λ r. ⌜ (length (now (lanes .exit)) ≡ 25) × (stateOf (now (lanes .exit)) ≡ xors (stateOf (now (lanes .entry))) (placed (8 * q) (take (8 * n) (now (s .entry))))) ⌝ }
 {
@@ -38,13 +38,13 @@ fn absorb_whole(lanes: &mut Lanes, q: usize, n: usize, s: &[u8])
 }
 
 // The bytes of s xored in from byte p on, which is the first of a lane.
-pub fn absorb(lanes: &mut Lanes, p: ByteCount, s: &[u8])
+pub fn xor_in(lanes: &mut Lanes, p: ByteCount, s: &[u8])
     requires { ⌜ (length (now lanes) ≡ 25) × (p .0 % 8 ≡ 0) × (p .0 + length (now s) ≤ stateBytes) ⌝ }
     ensures { λ r. ⌜ (length (now (lanes .exit)) ≡ 25) × (stateOf (now (lanes .exit)) ≡ xors (stateOf (now (lanes .entry))) (placed (p .0) (now (s .entry)))) ⌝ }
 {
     let q = p.0 / 8;
     let n = s.len() / 8;
-    absorb_whole(lanes, q, n, s);
+    xor_in_whole(lanes, q, n, s);
     if s.len() != 8 * n {
         let at = q + n;
         lanes[at] = lanes[at] ^ endian::load_part64(&s[8 * n..]);

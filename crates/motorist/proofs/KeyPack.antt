@@ -9,7 +9,7 @@ use lib.Seq.{take-at, drop-at}
 use Rattle.motorist.specs.Instance.{Instance, Sound, packLength}
 use Rattle.motorist.specs.Piston.{Bytes, pad}
 use Rattle.motorist.specs.Motorist.{Start, Keyed, keyPack, suv}
-use Rattle.motorist.specs.Reader.{zeros?, trim, startOf}
+use Rattle.motorist.specs.Reader.{zeros?, trim, asStart}
 
 pub length-pad : (n : ℕ) (l : Bytes) → length l ≤ n → length (pad n l) ≡ n
 length-pad n l h = simp (length-append, length-replicate) (omega arith)
@@ -47,7 +47,7 @@ nonce-back : (n : Bytes) (x y : ℕ) → take (length (n ++ x ∷ y ∷ []) - 2)
 nonce-back n x y = take-at n (x ∷ y ∷ []) (length (n ++ x ∷ y ∷ []) - 2) (simp length-append (omega arith))
 
 pub start-back : (i : Instance) → Sound i → (a : Start) → Keyed a → (x y : ℕ)
-    → startOf i (record { text = []; meta = suv i a ++ (x ∷ y ∷ []); forgets = a .forgets; tagged = a .tagged }) ≡ a
+    → asStart i (record { text = []; meta = suv i a ++ (x ∷ y ∷ []); forgets = a .forgets; tagged = a .tagged }) ≡ a
 start-back i ok a k x y =
     let p : Bytes = keyPack (packLength i) (a .key) in
     let l : length p ≡ packLength i = length-pack (packLength i) (a .key) (omega (arith, ok .packHolds, k .short)) in

@@ -7,7 +7,7 @@ use native.Mathlib.Omega.{arith}
 use lib.ListN.{length, take, drop, length-drop}
 use Rattle.motorist.specs.Instance.{Instance, Sound, textRate, fullRate}
 use Rattle.motorist.specs.Piston.{Bytes, block, plain, offsetsOf, offsetsFor}
-use Rattle.motorist.specs.Engine.{States, first, Round, textAfter, metaAfter, goesOn, injectStart, textFit, metaFit, deal, round, plan, fill, absorbs, ride, group}
+use Rattle.motorist.specs.Engine.{States, firstPiston, Round, textAfter, metaAfter, goesOn, injectStart, textFit, metaFit, deal, round, plan, fill, absorbs, ride, group}
 use Rattle.motorist.specs.Shape.{Fit}
 use Rattle.motorist.proofs.Plans.{Behind, behind, behind-less, inject-le, deal-fit, text-after-length, meta-after-length, Planned, last, more, planned}
 use Rattle.motorist.proofs.Blocks.{eom-back, crypt-end-back, inject-start-back, inject-end-back}
@@ -24,8 +24,8 @@ module _ (i : Instance) (ok : Sound i) where
   deal-offsets decrypt from at t m (e ∷ es) ss text meta ha hf hb ht hm =
       let a : ℕ = textFit i at t in
       let b : ℕ = metaFit i from m in
-      let x : Bytes = plain decrypt (first ss) at (take a text) in
-      let d = deal-fit i ok decrypt (first ss) from at t m text meta ha hf hb ht hm in
+      let x : Bytes = plain decrypt (firstPiston ss) at (take a text) in
+      let d = deal-fit i ok decrypt (firstPiston ss) from at t m text meta ha hf hb ht hm in
       let p = rw (d .text, d .meta) at (block-offsets at x from (take b meta) e (d .fit)) in
       let ih = deal-offsets decrypt from 0 (t - a) (m - b) es (drop 1 ss) (drop a text) (drop b meta) (omega (arith, ok .tagFits)) hf (behind-less i from t a hb) (rw (length-drop, ht)) (rw (length-drop, hm)) in
       λ j. p j ∷ ih j

@@ -9,7 +9,7 @@ use lib.ListN.{length, take, drop, replicate, length-drop, length-take}
 use lib.Seq.{take-nil, drop-nil, take-all}
 use Rattle.motorist.specs.Instance.{Instance, Sound, solo, stateLength, textRate, fullRate, chainLength, tagLength}
 use Rattle.motorist.specs.Piston.{Bytes, eom, block, mask, plain, absorb}
-use Rattle.motorist.specs.Engine.{States, Blocks, first, Round, injectStart, textFit, metaFit, round, Ride, ride, group, injectCollective, run}
+use Rattle.motorist.specs.Engine.{States, Blocks, firstPiston, Round, injectStart, textFit, metaFit, round, Ride, ride, group, injectCollective, run}
 use Rattle.motorist.specs.Motorist.{Start, Message, suv, taken, inject, knot, start, message}
 use Rattle.motorist.proofs.Plans.{eom-chain, Planned, last, more, planned, plan-last, plan-more, Injected, final, further, injected}
 
@@ -49,7 +49,7 @@ module _ (b w c : ℕ) (f : Bytes → Bytes) where
   oneKnot false g e = g e
   oneKnot true g e =
       let x : Ride = g (chainLength one) in
-      let s : Bytes = first (x .states) in
+      let s : Bytes = firstPiston (x .states) in
       record { output = x .output; blocks = x .blocks ++ ((knotBlock s e ∷ []) ∷ []); states = absorb f s (knotBlock s e) ∷ [] }
 
   -- some state that f gave

@@ -13,7 +13,7 @@ use lib.Seq.{length-take-le}
 use Rattle.motorist.specs.Instance.{Instance, Sound, textRate, fullRate, chainLength}
 use Rattle.motorist.specs.Piston.{Bytes, cryptEnd, eom, plain}
 use Rattle.motorist.specs.Motorist.{taken}
-use Rattle.motorist.specs.Engine.{Blocks, Round, textLeft, metaLeft, textAfter, metaAfter, done, goesOn, injectStart, textFit, metaFit, deal, round, planTo, plan, each, injectTo, injectCollective}
+use Rattle.motorist.specs.Engine.{Blocks, Round, textLeft, metaLeft, textAfter, metaAfter, noneLeft, goesOn, injectStart, textFit, metaFit, deal, round, planTo, plan, each, injectTo, injectCollective}
 use Rattle.motorist.proofs.Xors.{length-plain}
 
 -- a chaining value is never empty, so its EOM is its length
@@ -29,13 +29,13 @@ goes-on-length es = length-map {B = ℕ} es (λ x. 0)
 
 -- ---- what is left
 -- nothing is left, or something is
-abbrev pub Done : ℕ → ℕ → Type 0
-Done t m = ((done t m ≡ true) × (t ≡ 0) × (m ≡ 0)) ⊎ ((done t m ≡ false) × (0 < t + m))
+abbrev pub NoneOrSome : ℕ → ℕ → Type 0
+NoneOrSome t m = ((noneLeft t m ≡ true) × (t ≡ 0) × (m ≡ 0)) ⊎ ((noneLeft t m ≡ false) × (0 < t + m))
 
-pub done-cases : (t m : ℕ) → Done t m
-done-cases zero zero = inl (refl, refl, refl)
-done-cases zero (suc m) = inr (refl, omega arith)
-done-cases (suc t) m = inr (refl, omega arith)
+pub none-or-some : (t m : ℕ) → NoneOrSome t m
+none-or-some zero zero = inl (refl, refl, refl)
+none-or-some zero (suc m) = inr (refl, omega arith)
+none-or-some (suc t) m = inr (refl, omega arith)
 
 text-left-le : (r : Round) (t : ℕ) → textLeft r t ≤ t
 text-left-le [] t = omega arith
@@ -156,7 +156,7 @@ module _ (i : Instance) (ok : Sound i) (e : ℕ) (es : List ℕ) where
       let p : leftText i at t m (e ∷ es) ≡ 0 = omega (arith, text-left-le (round i at t m (goesOn (e ∷ es))) t) in
       let q : leftMeta i at t m (e ∷ es) ≡ 0 = omega (arith, meta-left-le (round i at t m (goesOn (e ∷ es))) m) in
       last ha p q
-  planned-to (suc n) at t m ha hn = go (done-cases t′ m′) (planned-to n 0 t′ m′ (omega (arith, ok .tagFits)))
+  planned-to (suc n) at t m ha hn = go (none-or-some t′ m′) (planned-to n 0 t′ m′ (omega (arith, ok .tagFits)))
     where
       t′ : ℕ
       t′ = leftText i at t m (e ∷ es)
@@ -164,7 +164,7 @@ module _ (i : Instance) (ok : Sound i) (e : ℕ) (es : List ℕ) where
       m′ : ℕ
       m′ = leftMeta i at t m (e ∷ es)
 
-      go : Done t′ m′ → (t′ + m′ ≤ n → Planned i (e ∷ es) 0 t′ m′ (planTo i n 0 t′ m′ (e ∷ es))) → Planned i (e ∷ es) at t m (planTo i (suc n) at t m (e ∷ es))
+      go : NoneOrSome t′ m′ → (t′ + m′ ≤ n → Planned i (e ∷ es) 0 t′ m′ (planTo i n 0 t′ m′ (e ∷ es))) → Planned i (e ∷ es) at t m (planTo i (suc n) at t m (e ∷ es))
       go (inl p) ih = rw (p .0, planTo) (last ha (p .1) (p .2))
       go (inr p) ih = rw (p .0, planTo) (more ha (p .1) (ih (omega (arith, left-less i ok at t m e es ha (p .1)))))
 
@@ -198,9 +198,9 @@ pub data Injected (i : Instance) (es : List ℕ) : Bytes → List Bytes → List
 module _ (i : Instance) (ok : Sound i) (es : List ℕ) where
   injected-to : (n : ℕ) (m : Bytes) (ms : List Bytes) → length m ≤ n → Injected i es m ms (injectTo i n (m ∷ ms) es)
   injected-to zero m ms h = let g : length m ≤ fullRate i = omega arith in final g
-  injected-to (suc n) m ms h = go (done-cases 0 (length m - fullRate i)) (injected-to n (drop (fullRate i) m) (map (drop (fullRate i)) ms))
+  injected-to (suc n) m ms h = go (none-or-some 0 (length m - fullRate i)) (injected-to n (drop (fullRate i) m) (map (drop (fullRate i)) ms))
     where
-      go : Done 0 (length m - fullRate i)
+      go : NoneOrSome 0 (length m - fullRate i)
           → (length (drop (fullRate i) m) ≤ n → Injected i es (drop (fullRate i) m) (map (drop (fullRate i)) ms) (injectTo i n (drop (fullRate i) m ∷ map (drop (fullRate i)) ms) es))
           → Injected i es m ms (injectTo i (suc n) (m ∷ ms) es)
       go (inl p) ih = let g : length m ≤ fullRate i = omega arith in rw (p .0, injectTo) (final g)

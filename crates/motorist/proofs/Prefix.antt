@@ -8,14 +8,14 @@ use Rattle.motorist.specs.Piston.{Bytes}
 use Rattle.motorist.specs.Engine.{Blocks}
 use Rattle.motorist.specs.Motorist.{Start, Message, Keyed, taken}
 use Rattle.motorist.specs.Session.{sessionBlocks}
-use Rattle.motorist.specs.Reader.{inside, read, messageOf, decode, shown}
+use Rattle.motorist.specs.Reader.{inside, read, asMessage, decode, shown}
 use Rattle.motorist.proofs.Story.{nextText, session-read, session-back, all-shown}
 
 pub front-session : (i : Instance) → Sound i → (f : Bytes → Bytes) (a b : Start) (gs hs : List Message) (rest : List Blocks) → Keyed a → Keyed b
     → sessionBlocks i f a gs ++ rest ≡ sessionBlocks i f b hs
     → (a ≡ b) × ((others : List Message) × (map (shown i) gs ++ others ≡ map (shown i) hs))
 front-session i ok f a b gs hs rest ka kb e =
-    let others : List Message = map (messageOf i) (read i (inside (nextText (taken (a .tagged)) gs) [] []) rest) in
+    let others : List Message = map (asMessage i) (read i (inside (nextText (taken (a .tagged)) gs) [] []) rest) in
     let p : _≡_ {A = Start × List Message} (a, map (shown i) gs ++ others) (b, map (shown i) hs) = sym (session-read i ok f a gs rest ka) ∙ ap (decode i) e ∙ session-back i ok f b hs kb in
     (ap (λ q. q .0) p, (others, ap (λ q. q .1) p))
 

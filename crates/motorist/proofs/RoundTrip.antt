@@ -9,7 +9,7 @@ use lib.ListN.{length, take, drop, length-drop, take-append-drop}
 use lib.Seq.{take-at, drop-at, length-take-le}
 use Rattle.motorist.specs.Instance.{Instance, Sound, textRate, tagLength}
 use Rattle.motorist.specs.Piston.{Bytes, mask}
-use Rattle.motorist.specs.Engine.{States, first, Round, textAfter, metaAfter, goesOn, round, Ride, crypt, fill, absorbs, run, ride, group}
+use Rattle.motorist.specs.Engine.{States, firstPiston, Round, textAfter, metaAfter, goesOn, round, Ride, crypt, fill, absorbs, run, ride, group}
 use Rattle.motorist.specs.Motorist.{Message, knots, ends, knot, message, wrap, unwrap}
 use Rattle.motorist.specs.Session.{Step, step, withText, mirrorOf, plaintextOf, Steps, steps}
 use Rattle.motorist.proofs.Plans.{Planned, last, more, planned, round-left, text-after-length}
@@ -29,7 +29,7 @@ pub record Back (i : Instance) (decrypt : Bool) (r : Round) (ss : States) (t res
 round-back : (i : Instance) (decrypt : Bool) (r : Round) (ss : States) (t rest m : Bytes) → Within r (length t) → Back i decrypt r ss t rest m
 round-back i decrypt [] ss t rest m w = record { text = refl; after = refl; blocks = refl }
 round-back i decrypt (p ∷ ps) ss t rest m w =
-    let s : Bytes = first ss in
+    let s : Bytes = firstPiston ss in
     let x : Bytes = mask s (p .at) (take (p .text) t) in
     let y : Bytes = crypt ps (drop 1 ss) (drop (p .text) t) in
     let l : length x ≡ p .text = length-xors (take (p .text) t) (drop (p .at) s) ∙ length-take-le (p .text) t (w .0) in

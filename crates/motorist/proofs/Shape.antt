@@ -10,7 +10,7 @@ use native.Mathlib.Nat.{min-zero, add-suc}
 use lib.ListN.{length, take, drop, replicate, length-append, length-take, length-drop, length-replicate, length-map}
 use Rattle.motorist.specs.Instance.{Instance, Sound, pistons, stateLength, textRate, fullRate, chainLength, packLength, tagLength}
 use Rattle.motorist.specs.Piston.{Bytes, cryptEnd, eom, block, xors, plain, cryptEndOf}
-use Rattle.motorist.specs.Engine.{States, Blocks, first, Round, textAfter, metaAfter, goesOn, injectStart, textFit, metaFit, deal, round, Ride, fill, absorbs, run, ride, group, each}
+use Rattle.motorist.specs.Engine.{States, Blocks, firstPiston, Round, textAfter, metaAfter, goesOn, injectStart, textFit, metaFit, deal, round, Ride, fill, absorbs, run, ride, group, each}
 use Rattle.motorist.specs.Motorist.{Start, Message, taken, ends, chains, chain, fresh, keyPack, suv, diversify, knots, inject, knot, start, message}
 use Rattle.motorist.specs.Session.{Step, step, steps, sessionBlocks}
 use Rattle.motorist.specs.Shape.{Fit, Each, State, Keeps, Eom, Shaped, ShapedRound, SmallStart, SmallMessage}
@@ -57,7 +57,7 @@ module _ (i : Instance) (ok : Sound i) where
       }
 
   -- ---- states
-  first-small : (ss : States) → Each (State i) ss → Small (first ss)
+  first-small : (ss : States) → Each (State i) ss → Small (firstPiston ss)
   first-small [] h = small-nil
   first-small (s ∷ ss) h = h .0 .small
 
@@ -73,9 +73,9 @@ module _ (i : Instance) (ok : Sound i) where
   deal-shaped decrypt from at t m (e ∷ es) ss text meta ha hf hb ht hm st sm he hs =
       let a : ℕ = textFit i at t in
       let b : ℕ = metaFit i from m in
-      let x : Bytes = plain decrypt (first ss) at (take a text) in (
-        block-shaped at x from (take b meta) e (deal-fit i ok decrypt (first ss) from at t m text meta ha hf hb ht hm .fit)
-            (small-plain decrypt (first ss) at (take a text) (first-small ss hs) (small-take a text st)) (small-take b meta sm) (he .0),
+      let x : Bytes = plain decrypt (firstPiston ss) at (take a text) in (
+        block-shaped at x from (take b meta) e (deal-fit i ok decrypt (firstPiston ss) from at t m text meta ha hf hb ht hm .fit)
+            (small-plain decrypt (firstPiston ss) at (take a text) (first-small ss hs) (small-take a text st)) (small-take b meta sm) (he .0),
         deal-shaped decrypt from 0 (t - a) (m - b) es (drop 1 ss) (drop a text) (drop b meta) (omega (arith, ok .tagFits)) hf (behind-less i from t a hb)
             (rw (length-drop, ht)) (rw (length-drop, hm)) (small-drop a text st) (small-drop b meta sm) (he .1) (others ss hs),
       )
@@ -96,8 +96,8 @@ module _ (i : Instance) (ok : Sound i) where
       let from : ℕ = injectStart i t in
       let a : ℕ = textFit i at t in
       let b : ℕ = metaFit i from m in
-      let x : Bytes = plain decrypt (first ss) at (take a text) in
-      let d = deal-fit i ok decrypt (first ss) from at t m text meta ha (inject-le i ok t) (behind i t) ht hm in
+      let x : Bytes = plain decrypt (firstPiston ss) at (take a text) in
+      let d = deal-fit i ok decrypt (firstPiston ss) from at t m text meta ha (inject-le i ok t) (behind i t) ht hm in
       let c : cryptEndOf i (block i at x from (take b meta) e) ≡ cryptEnd at a = crypt-end-back i ok at x from (take b meta) e (d .fit) ∙ rw (d .text) in
       rw (c, same-start at t ha) (deal-shaped decrypt from at t m (e ∷ es) ss text meta ha (inject-le i ok t) (behind i t) ht hm st sm he hs)
 

@@ -10,7 +10,7 @@ use Rattle.motorist.specs.Piston.{Bytes}
 use Rattle.motorist.specs.Engine.{States, Blocks, Ride, run, group}
 use Rattle.motorist.specs.Motorist.{Start, Message, Keyed, taken, fresh, suv, diversify, knots, inject, start, message}
 use Rattle.motorist.specs.Session.{Step, step, plaintextOf, Steps, steps, wrapAll, sessionBlocks, sessionStates}
-use Rattle.motorist.specs.Reader.{Group, starting, inside, read, messageOf, decode, shown}
+use Rattle.motorist.specs.Reader.{Group, starting, inside, read, asMessage, decode, shown}
 use Rattle.motorist.proofs.KeyPack.{start-back}
 use Rattle.motorist.proofs.Plans.{taken-fits}
 use Rattle.motorist.proofs.Reading.{group-read, start-read, knot-read}
@@ -33,7 +33,7 @@ module _ (i : Instance) where
   abbrev groupOf : Message → Group
   groupOf g = record { text = g .text; meta = g .meta; forgets = knots i g; tagged = true }
 
-  messages-of : (gs : List Message) (rest : List Group) → map (messageOf i) (map groupOf gs ++ rest) ≡ map (shown i) gs ++ map (messageOf i) rest
+  messages-of : (gs : List Message) (rest : List Group) → map (asMessage i) (map groupOf gs ++ rest) ≡ map (shown i) gs ++ map (asMessage i) rest
   messages-of [] rest = refl
   messages-of (g ∷ gs) rest = ap {B = List Message} (λ r. shown i g ∷ r) (messages-of gs rest)
 
@@ -54,7 +54,7 @@ module _ (i : Instance) where
     -- the blocks of a session with more behind them: the session, and more messages
     pub session-read : (a : Start) (gs : List Message) (rest : List Blocks) → Keyed a
         → decode i (sessionBlocks i f a gs ++ rest)
-        ≡ (a, map (shown i) gs ++ map (messageOf i) (read i (inside (nextText (taken (a .tagged)) gs) [] []) rest))
+        ≡ (a, map (shown i) gs ++ map (asMessage i) (read i (inside (nextText (taken (a .tagged)) gs) [] []) rest))
     unfolding sessionBlocks start
     session-read a gs rest k =
         let m : Bytes = suv i a ++ (pistons i ∷ 0 ∷ []) in

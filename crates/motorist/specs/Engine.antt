@@ -14,8 +14,8 @@ abbrev pub Blocks : Type 0
 Blocks = List Bytes
 
 -- the first Piston's
-abbrev pub first : List Bytes → Bytes
-first l = getD l 0 []
+abbrev pub firstPiston : List Bytes → Bytes
+firstPiston l = getD l 0 []
 
 -- ---- the plan, from lengths alone
 -- a part for each Piston
@@ -32,10 +32,10 @@ metaLeft [] m = m
 metaLeft (p ∷ ps) m = metaLeft ps (m - p .meta)
 
 -- nothing is left, of the text nor of the metadata
-abbrev pub done : ℕ → ℕ → Bool
-done zero zero = true
-done zero (suc m) = false
-done (suc t) m = false
+abbrev pub noneLeft : ℕ → ℕ → Bool
+noneLeft zero zero = true
+noneLeft zero (suc m) = false
+noneLeft (suc t) m = false
 
 -- the EOMs of a round are a list, one for each Piston; inside a group each is 0
 abbrev pub goesOn : List ℕ → List ℕ
@@ -72,7 +72,7 @@ module _ (i : Instance) where
   planTo zero at t m es = round at t m es ∷ []
   planTo (suc n) at t m es =
       let r : Round = round at t m (goesOn es) in
-      elim (done (textLeft r t) (metaLeft r m)) [
+      elim (noneLeft (textLeft r t) (metaLeft r m)) [
         | true ↦ round at t m es ∷ []
         | false ↦ r ∷ planTo n 0 (textLeft r t) (metaLeft r m) es
       ]
@@ -99,14 +99,14 @@ metaAfter (p ∷ ps) m = metaAfter ps (drop (p .meta) m)
 -- the output of a round: each Piston's text under its state
 abbrev pub crypt : Round → States → Bytes → Bytes
 crypt [] ss t = []
-crypt (p ∷ ps) ss t = mask (first ss) (p .at) (take (p .text) t) ++ crypt ps (drop 1 ss) (drop (p .text) t)
+crypt (p ∷ ps) ss t = mask (firstPiston ss) (p .at) (take (p .text) t) ++ crypt ps (drop 1 ss) (drop (p .text) t)
 
 module _ (i : Instance) where
   -- the blocks of a round: each holds the plaintext of its text, also where that is to be decrypted
   abbrev pub fill : Bool → Round → States → Bytes → Bytes → Blocks
   fill decrypt [] ss t m = []
   fill decrypt (p ∷ ps) ss t m =
-      block i (p .at) (plain decrypt (first ss) (p .at) (take (p .text) t)) (p .from) (take (p .meta) m) (p .eom)
+      block i (p .at) (plain decrypt (firstPiston ss) (p .at) (take (p .text) t)) (p .from) (take (p .meta) m) (p .eom)
       ∷ fill decrypt ps (drop 1 ss) (drop (p .text) t) (drop (p .meta) m)
 
   -- strings injected collectively: for each Piston its own, all of one length, and its EOM; a round, and rounds until nothing is left
@@ -118,19 +118,19 @@ module _ (i : Instance) where
   abbrev pub injectTo : ℕ → List Bytes → List ℕ → List Blocks
   injectTo zero ms es = each ms es ∷ []
   injectTo (suc n) ms es =
-      elim (done 0 (length (first ms) - fullRate i)) [
+      elim (noneLeft 0 (length (firstPiston ms) - fullRate i)) [
         | true ↦ each ms es ∷ []
         | false ↦ each (map (take (fullRate i)) ms) (goesOn es) ∷ injectTo n (map (drop (fullRate i)) ms) es
       ]
 
   unfoldable pub injectCollective : List Bytes → List ℕ → List Blocks
-  injectCollective ms es = injectTo (length (first ms)) ms es
+  injectCollective ms es = injectTo (length (firstPiston ms)) ms es
 
   module _ (f : Bytes → Bytes) where
     -- the states after a round of blocks, and after all rounds
     abbrev pub absorbs : States → Blocks → States
     absorbs ss [] = []
-    absorbs ss (b ∷ bs) = absorb f (first ss) b ∷ absorbs (drop 1 ss) bs
+    absorbs ss (b ∷ bs) = absorb f (firstPiston ss) b ∷ absorbs (drop 1 ss) bs
 
     abbrev pub run : States → List Blocks → States
     run ss [] = ss

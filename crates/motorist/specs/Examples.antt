@@ -8,7 +8,7 @@ use lib.ListN.{length, getD, take, drop, replicate}
 use lib.Seq.{slice}
 use Rattle.motorist.specs.Instance.{Instance, stateLength, textRate, fullRate, chainLength, packLength, lake, river, sea, ocean, lunar}
 use Rattle.motorist.specs.Piston.{Bytes, block, eomOf, cryptEndOf, offsetsOf}
-use Rattle.motorist.specs.Engine.{States, Ride, first, round, plan, injectCollective}
+use Rattle.motorist.specs.Engine.{States, Ride, firstPiston, round, plan, injectCollective}
 use Rattle.motorist.specs.Motorist.{Start, Message, keyPack, start, message, wrap, unwrap}
 use Rattle.motorist.specs.Session.{sessionBlocks}
 
@@ -37,7 +37,7 @@ messagePlan i tagged t m forgets =
 
 -- the blocks of the one Piston
 abbrev alone : List (List Bytes) → List Bytes
-alone rs = map first rs
+alone rs = map firstPiston rs
 
 -- blocks as 01 states them, each (crypt end, inject start, inject end, EOM)
 abbrev stated : List (ℕ × ℕ × ℕ × ℕ) → List Bytes

@@ -5,7 +5,7 @@ use mathlib.Core.List.{List, [], _∷_, _++_}
 use lib.ListN.{length, take, replicate}
 use Rattle.motorist.specs.Instance.{Instance, pistons, stateLength, chainLength, packLength, tagLength}
 use Rattle.motorist.specs.Piston.{Bytes, pad, eom}
-use Rattle.motorist.specs.Engine.{States, Blocks, first, Ride, run, group, injectCollective}
+use Rattle.motorist.specs.Engine.{States, Blocks, firstPiston, Ride, run, group, injectCollective}
 
 -- what starts a session
 pub record Start : Type 0 where
@@ -37,7 +37,7 @@ taken false = 0
 
 -- the tag
 abbrev pub tag : States → Bytes
-tag ss = take tagLength (first ss)
+tag ss = take tagLength (firstPiston ss)
 
 abbrev pub several : ℕ → Bool
 several zero = false

@@ -6,7 +6,7 @@ use lib.Dec.{eqb}
 use lib.ListN.{length, take, drop}
 use Rattle.motorist.specs.Instance.{Instance, chainLength, packLength, tagLength}
 use Rattle.motorist.specs.Piston.{Bytes, eomOf, textOf, metaOf}
-use Rattle.motorist.specs.Engine.{Blocks, first}
+use Rattle.motorist.specs.Engine.{Blocks, firstPiston}
 use Rattle.motorist.specs.Motorist.{Start, Message, taken, knots}
 
 -- ---- one round
@@ -47,8 +47,8 @@ trim [] = []
 trim (x ∷ l) = elim (zeros? l) [ true ↦ [] | false ↦ x ∷ trim l ]
 
 module _ (i : Instance) where
-  abbrev pub endOf : ℕ → End
-  endOf e = elim (eqb e 0) [ true ↦ continues | false ↦ elim (eqb e (chainLength i)) [ true ↦ ties | false ↦ closes (eqb e tagLength) ] ]
+  abbrev pub eomSays : ℕ → End
+  eomSays e = elim (eqb e 0) [ true ↦ continues | false ↦ elim (eqb e (chainLength i)) [ true ↦ ties | false ↦ closes (eqb e tagLength) ] ]
 
   -- the text of a round, the first Piston's from `at` on, and its metadata
   abbrev pub textsOf : ℕ → Blocks → Bytes
@@ -60,36 +60,36 @@ module _ (i : Instance) where
   metasOf (b ∷ bs) = metaOf i b ++ metasOf bs
 
   abbrev pub enter : Mode → Blocks → End → Mode × List Group
-  enter (starting m) bs e = let m′ : Bytes = m ++ metaOf i (first bs) in turn (starting m′) [] m′ false e
+  enter (starting m) bs e = let m′ : Bytes = m ++ metaOf i (firstPiston bs) in turn (starting m′) [] m′ false e
   enter (inside at t m) bs e =
       let t′ : Bytes = t ++ textsOf at bs in
       let m′ : Bytes = m ++ metasOf bs in
       turn (inside 0 t′ m′) t′ m′ false e
   enter (knotting t m) bs e = turn (knotting t m) t m true e
 
-  abbrev pub step : Mode → Blocks → Mode × List Group
-  step μ bs = enter μ bs (endOf (eomOf i (first bs)))
+  abbrev pub readRound : Mode → Blocks → Mode × List Group
+  readRound μ bs = enter μ bs (eomSays (eomOf i (firstPiston bs)))
 
   -- ---- all rounds
   abbrev pub read : Mode → List Blocks → List Group
   read μ [] = []
-  read μ (bs ∷ rest) = step μ bs .1 ++ read (step μ bs .0) rest
+  read μ (bs ∷ rest) = readRound μ bs .1 ++ read (readRound μ bs .0) rest
 
   -- the first group is the start, without the two bytes at its end; the others are messages
-  abbrev pub startOf : Group → Start
-  startOf g =
+  abbrev pub asStart : Group → Start
+  asStart g =
       let n : Bytes = drop (packLength i) (g .meta) in
       record { key = trim (drop 1 (take (packLength i) (g .meta))); nonce = take (length n - 2) n; tagged = g .tagged; forgets = g .forgets }
 
-  abbrev pub messageOf : Group → Message
-  messageOf g = record { text = g .text; meta = g .meta; forgets = g .forgets }
+  abbrev pub asMessage : Group → Message
+  asMessage g = record { text = g .text; meta = g .meta; forgets = g .forgets }
 
-  abbrev pub sessionOf : List Group → Start × List Message
-  sessionOf [] = (record { key = []; nonce = []; tagged = false; forgets = false }, [])
-  sessionOf (g ∷ gs) = (startOf g, map messageOf gs)
+  abbrev pub asSession : List Group → Start × List Message
+  asSession [] = (record { key = []; nonce = []; tagged = false; forgets = false }, [])
+  asSession (g ∷ gs) = (asStart g, map asMessage gs)
 
   abbrev pub decode : List Blocks → Start × List Message
-  decode rs = sessionOf (read (starting []) rs)
+  decode rs = asSession (read (starting []) rs)
 
   -- what the blocks show of a message: with several Pistons it always has a knot, and its own choice does not show
   abbrev pub shown : Message → Message

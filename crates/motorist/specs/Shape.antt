@@ -7,7 +7,7 @@ use lib.ListN.{length}
 use Rattle.endian.specs.Small.{Small}
 use Rattle.motorist.specs.Instance.{Instance, stateLength, textRate, fullRate, chainLength, tagLength}
 use Rattle.motorist.specs.Piston.{Bytes, cryptEnd, block, cryptEndOf}
-use Rattle.motorist.specs.Engine.{Blocks, first, injectStart}
+use Rattle.motorist.specs.Engine.{Blocks, firstPiston, injectStart}
 use Rattle.motorist.specs.Motorist.{Start, Message}
 
 -- every element has P
@@ -48,7 +48,7 @@ pub record Shaped (i : Instance) (from : ℕ) (b : Bytes) : Type 0 where
 
 -- the blocks of a round: all metadata starts at the text rate if the first block has text, that is, if its Crypt End is not 0; else at 0
 abbrev pub ShapedRound : Instance → Blocks → Type 0
-ShapedRound i bs = Each (Shaped i (injectStart i (cryptEndOf i (first bs)))) bs
+ShapedRound i bs = Each (Shaped i (injectStart i (cryptEndOf i (firstPiston bs)))) bs
 
 -- ---- inputs of bytes
 pub record SmallStart (a : Start) : Type 0 where

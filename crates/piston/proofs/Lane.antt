@@ -89,10 +89,10 @@ module _ (w : ℕ) where
 -- ---- the turns of the loops over the lanes that a run of bytes fills, from lane q on
 module _ (w q : ℕ) (v : Bytes) (small : Small v) where
   -- the first a bytes of v are in; the k from there on go into lane q + j
-  pub absorb-more : (b₀ : Bytes) (l : List ℕ) (j k : ℕ) → q + j < length l → k ≤ w → w * j + k ≤ length v
+  pub xor-in-more : (b₀ : Bytes) (l : List ℕ) (j k : ℕ) → q + j < length l → k ≤ w → w * j + k ≤ length v
       → bytes w l ≡ xors b₀ (placed (w * q) (take (w * j) v))
       → bytes w (set l (q + j) (bitXor (getD l (q + j) 0) (fromBytes (take k (drop (w * j) v))))) ≡ xors b₀ (placed (w * q) (take (w * j + k) v))
-  absorb-more b₀ l j k hl hk hv e =
+  xor-in-more b₀ l j k hl hk hv e =
       let x : Bytes = take (w * j) v in
       let y : Bytes = take k (drop (w * j) v) in
       let ly : length y ≡ k = length-take-le k (drop (w * j) v) (rw length-drop (omega arith)) in

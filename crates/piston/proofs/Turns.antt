@@ -15,33 +15,33 @@ use Rattle.motorist.proofs.Xors.{length-mask}
 use Rattle.slices.proofs.Parts.{grow}
 use Rattle.piston.specs.Placed.{placed}
 use Rattle.piston.proofs.Xors.{xors-zeros, mask-zeros}
-use Rattle.piston.proofs.Lane.{absorb-more, stream-more}
+use Rattle.piston.proofs.Lane.{xor-in-more, stream-more}
 
--- a part, as the code cuts it
-cut : (a k : ℕ) → a + k - a ≡ k
-cut a k = omega arith
+-- the size of the part from a to a + k
+part-size : (a k : ℕ) → a + k - a ≡ k
+part-size a k = omega arith
 
 next-lane : (w j : ℕ) → w * (j + 1) ≡ w * j + w
 next-lane w j = mul-add w j 1 ∙ rw mul-one refl
 
 module _ (w q : ℕ) (v : Bytes) where
-  pub absorb-none : (b : Bytes) → b ≡ xors b (placed (w * q) (take (w * 0) v))
-  absorb-none b = rw (mul-zero, append-nil) (sym (xors-zeros b (w * q)))
+  pub xor-in-none : (b : Bytes) → b ≡ xors b (placed (w * q) (take (w * 0) v))
+  xor-in-none b = rw (mul-zero, append-nil) (sym (xors-zeros b (w * q)))
 
   module _ (small : Small v) (l : List ℕ) (j x : ℕ) (inside : q + j < length l) where
     -- a whole lane more
-    pub absorb-turn : (b₀ : Bytes) → w * j + w ≤ length v → bytes w l ≡ xors b₀ (placed (w * q) (take (w * j) v))
+    pub xor-in-turn : (b₀ : Bytes) → w * j + w ≤ length v → bytes w l ≡ xors b₀ (placed (w * q) (take (w * j) v))
         → x ≡ fromBytes (take (w * j + w - w * j) (drop (w * j) v))
         → bytes w (set l (q + j) (bitXor (getD l (q + j) 0) x)) ≡ xors b₀ (placed (w * q) (take (w * (j + 1)) v))
-    absorb-turn b₀ room e ex = rw (ex, cut (w * j) w, next-lane w j) (absorb-more w q v small b₀ l j w inside (omega arith) room e)
+    xor-in-turn b₀ room e ex = rw (ex, part-size (w * j) w, next-lane w j) (xor-in-more w q v small b₀ l j w inside (omega arith) room e)
 
     -- what is behind the whole lanes
-    pub absorb-rest : (b₀ : Bytes) → w * j ≤ length v → length v - w * j ≤ w → bytes w l ≡ xors b₀ (placed (w * q) (take (w * j) v))
+    pub xor-in-rest : (b₀ : Bytes) → w * j ≤ length v → length v - w * j ≤ w → bytes w l ≡ xors b₀ (placed (w * q) (take (w * j) v))
         → x ≡ fromBytes (take (length v - w * j) (drop (w * j) v))
         → bytes w (set l (q + j) (bitXor (getD l (q + j) 0) x)) ≡ xors b₀ (placed (w * q) v)
-    absorb-rest b₀ room few e ex =
+    xor-in-rest b₀ room few e ex =
         let k : w * j + (length v - w * j) ≡ length v = omega arith in
-        rw (ex, absorb-more w q v small b₀ l j (length v - w * j) inside few (omega arith) e, k, take-all (length v) v (omega arith)) refl
+        rw (ex, xor-in-more w q v small b₀ l j (length v - w * j) inside few (omega arith) e, k, take-all (length v) v (omega arith)) refl
 
     -- ys came back in the place of a lane's worth of d: as long as before, and a lane more is done
     pub stream-turn : (d₀ d ys : Bytes) → length d₀ ≡ length v → w * j + w ≤ length v → w * length l ≡ length (bytes w l)
@@ -53,9 +53,9 @@ module _ (w q : ℕ) (v : Bytes) where
         let m : ℕ → Bytes = λ n. mask (bytes w l) (w * q) (take (w * n) v) in
         let lm : length (m j) ≡ w * j = length-mask (bytes w l) (w * q) (take (w * j) v) ∙ length-take-le (w * j) v (omega arith) in
         let here : w * (q + j) ≤ length (bytes w l) = rw (← all) (mul-le-mul-left w (le-of-lt inside)) in
-        let y : ys ≡ toBytes w (bitXor (fromBytes (take w (drop (w * j) v))) (getD l (q + j) 0)) = rw (rw (cut (w * j) w) at ex) at ey in
+        let y : ys ≡ toBytes w (bitXor (fromBytes (take w (drop (w * j) v))) (getD l (q + j) 0)) = rw (rw (part-size (w * j) w) at ex) at ey in
         let done : take (w * j) d ++ (ys ++ drop (w * j + w - w * j) (drop (w * j) d)) ≡ m (j + 1) ++ drop (w * (j + 1)) d₀
-        = rw (e, cut (w * j) w, grow (m j) d₀ ys (w * j) w lm, y, stream-more w q v small l j w inside (omega arith) room here, next-lane w j) refl in
+        = rw (e, part-size (w * j) w, grow (m j) d₀ ys (w * j) w lm, y, stream-more w q v small l j w inside (omega arith) room here, next-lane w j) refl in
         let long : length (m (j + 1)) ≡ w * j + w = length-mask (bytes w l) (w * q) (take (w * (j + 1)) v) ∙ rw (next-lane w j) (length-take-le (w * j + w) v room) in
         let left : length (drop (w * (j + 1)) d₀) ≡ length d₀ - (w * j + w) = rw (length-drop, next-lane w j) refl in
         (ap length done ∙ length-append (m (j + 1)) (drop (w * (j + 1)) d₀) ∙ omega (arith, long, left), done)
@@ -77,8 +77,8 @@ module _ (w q : ℕ) (v : Bytes) where
         refl
 
   -- nothing behind the whole lanes
-  pub absorb-whole : (b₀ b : Bytes) (n : ℕ) → length v ≡ w * n → b ≡ xors b₀ (placed (w * q) (take (w * n) v)) → b ≡ xors b₀ (placed (w * q) v)
-  absorb-whole b₀ b n h e = rw (take-all (w * n) v (omega arith)) at e
+  pub xor-in-whole : (b₀ b : Bytes) (n : ℕ) → length v ≡ w * n → b ≡ xors b₀ (placed (w * q) (take (w * n) v)) → b ≡ xors b₀ (placed (w * q) v)
+  xor-in-whole b₀ b n h e = rw (take-all (w * n) v (omega arith)) at e
 
   pub stream-whole : (s d₀ d : Bytes) (n : ℕ) → length d₀ ≡ length v → length v ≡ w * n → d ≡ mask s (w * q) (take (w * n) v) ++ drop (w * n) d₀ → d ≡ mask s (w * q) v
   stream-whole s d₀ d n hd h e = rw (take-all (w * n) v (omega arith), drop-of-length-le d₀ {i = w * n} (omega arith), append-nil) at e

@@ -15,7 +15,7 @@ use Rattle.motorist.proofs.OnePiston.{oneKnot, knotBlock, meta-last, meta-more,
 use Rattle.piston.specs.Placed.{placed}
 use Rattle.piston.proofs.Xors.{xors-nil}
 use Rattle.piston.proofs.Block.{block-parts}
-use Rattle.plan.specs.Opening.{opening, opened}
+use Rattle.plan.specs.Start.{startBytes, startGroup}
 
 module _ (b w c : ℕ) (f : Bytes → Bytes) (ok : Sound (solo b w c)) where
   abbrev one : Instance
@@ -56,23 +56,23 @@ module _ (b w c : ℕ) (f : Bytes → Bytes) (ok : Sound (solo b w c)) where
 
   -- ---- a start: its blocks one by one, d bytes of what it injects being done
   module _ (key nonce : Bytes) where
-    abbrev opens : Bytes
-    opens = opening (packLength one) key nonce
+    abbrev theBytes : Bytes
+    theBytes = startBytes (packLength one) key nonce
 
-    pub record Opening (e : ℕ) (s : Bytes) (d n : ℕ) : Type 0 where
-      pub within : d ≤ length opens
+    pub record Starting (e : ℕ) (s : Bytes) (d n : ℕ) : Type 0 where
+      pub within : d ≤ length theBytes
       pub few : n ≤ d
-      pub states : group one f false (s ∷ []) 0 [] (drop d opens) (e ∷ []) .states ≡ opened one f key nonce e .states
-      pub count : n + length (group one f false (s ∷ []) 0 [] (drop d opens) (e ∷ []) .blocks) ≡ length (opened one f key nonce e .blocks)
+      pub states : group one f false (s ∷ []) 0 [] (drop d theBytes) (e ∷ []) .states ≡ startGroup one f key nonce e .states
+      pub count : n + length (group one f false (s ∷ []) 0 [] (drop d theBytes) (e ∷ []) .blocks) ≡ length (startGroup one f key nonce e .blocks)
 
-    pub opening-none : (e : ℕ) (s : Bytes) → s ≡ replicate (stateLength one) 0 → Opening e s 0 0
-    opening-none e s h = record { within = omega arith; few = omega arith; states = rw h refl; count = rw h (omega arith) }
+    pub starting-none : (e : ℕ) (s : Bytes) → s ≡ replicate (stateLength one) 0 → Starting e s 0 0
+    starting-none e s h = record { within = omega arith; few = omega arith; states = rw h refl; count = rw h (omega arith) }
 
-    pub opening-more : {e : ℕ} {s : Bytes} {d n : ℕ} → Opening e s d n → (s′ : Bytes) → fullRate one < length opens - d
-        → s′ ≡ absorb f s (block one 0 [] 0 (take (fullRate one) (drop d opens)) 0) → Opening e s′ (d + fullRate one) (n + 1)
-    opening-more {e} {s} {d} {n} o s′ h es =
-        let p = meta-more b w c f ok false s (drop d opens) e (rw length-drop h) in
-        let p′ = rw (← es, drop-drop (fullRate one) d opens) at p in
+    pub starting-more : {e : ℕ} {s : Bytes} {d n : ℕ} → Starting e s d n → (s′ : Bytes) → fullRate one < length theBytes - d
+        → s′ ≡ absorb f s (block one 0 [] 0 (take (fullRate one) (drop d theBytes)) 0) → Starting e s′ (d + fullRate one) (n + 1)
+    starting-more {e} {s} {d} {n} o s′ h es =
+        let p = meta-more b w c f ok false s (drop d theBytes) e (rw length-drop h) in
+        let p′ = rw (← es, drop-drop (fullRate one) d theBytes) at p in
         record {
           within = omega arith;
           few = omega (arith, o .few, ok .tagFits, ok .textFits);
@@ -80,25 +80,25 @@ module _ (b w c : ℕ) (f : Bytes → Bytes) (ok : Sound (solo b w c)) where
           count = omega (arith, ap (λ (z : Ride). length (z .blocks)) p′, o .count);
         }
 
-    pub opening-last : {e : ℕ} {s : Bytes} {d n : ℕ} → Opening e s d n → (s′ : Bytes) → length opens - d ≤ fullRate one
-        → s′ ≡ absorb f s (block one 0 [] 0 (take (length opens - d) (drop d opens)) e)
-        → (s′ ∷ [] ≡ opened one f key nonce e .states) × (n + 1 ≡ length (opened one f key nonce e .blocks))
-    opening-last {e} {s} {d} {n} o s′ h es =
-        let p = meta-last b w c f ok false s (drop d opens) e (rw length-drop h) in
-        let es′ = rw (take-all (length opens - d) (drop d opens) (rw length-drop (omega arith))) at es in
+    pub starting-last : {e : ℕ} {s : Bytes} {d n : ℕ} → Starting e s d n → (s′ : Bytes) → length theBytes - d ≤ fullRate one
+        → s′ ≡ absorb f s (block one 0 [] 0 (take (length theBytes - d) (drop d theBytes)) e)
+        → (s′ ∷ [] ≡ startGroup one f key nonce e .states) × (n + 1 ≡ length (startGroup one f key nonce e .blocks))
+    starting-last {e} {s} {d} {n} o s′ h es =
+        let p = meta-last b w c f ok false s (drop d theBytes) e (rw length-drop h) in
+        let es′ = rw (take-all (length theBytes - d) (drop d theBytes) (rw length-drop (omega arith))) at es in
         let p′ = rw (← es′) at p in
         (sym (ap (λ (z : Ride). z .states) p′) ∙ o .states, omega (arith, ap (λ (z : Ride). length (z .blocks)) p′, o .count))
 
     abbrev begun : Bool → Bool → Ride
     begun k tagged = start one f (record { key = key; nonce = nonce; tagged = tagged; forgets = k })
 
-    pub start-plain : (k tagged : Bool) → k ≡ false → opened one f key nonce (eom (taken tagged)) ≡ begun k tagged
+    pub start-plain : (k tagged : Bool) → k ≡ false → startGroup one f key nonce (eom (taken tagged)) ≡ begun k tagged
     start-plain k tagged h = rw h (sym (start-one b w c f ok (record { key = key; nonce = nonce; tagged = tagged; forgets = false })))
 
-    pub start-knot : (k tagged : Bool) (gs ks : Bytes) (n : ℕ) → k ≡ true → gs ∷ [] ≡ opened one f key nonce (chainLength one) .states → n ≡ length (opened one f key nonce (chainLength one) .blocks)
+    pub start-knot : (k tagged : Bool) (gs ks : Bytes) (n : ℕ) → k ≡ true → gs ∷ [] ≡ startGroup one f key nonce (chainLength one) .states → n ≡ length (startGroup one f key nonce (chainLength one) .blocks)
         → ks ≡ absorb f gs (knotBlock b w c f gs (eom (taken tagged)))
         → (ks ∷ [] ≡ begun k tagged .states) × (n + 1 ≡ length (begun k tagged .blocks))
     start-knot k tagged gs ks n h hg hn hk =
         let q = start-one b w c f ok (record { key = key; nonce = nonce; tagged = tagged; forgets = true }) in
-        let z = knotted (opened one f key nonce) (eom (taken tagged)) gs ks n hg hn hk in
+        let z = knotted (startGroup one f key nonce) (eom (taken tagged)) gs ks n hg hn hk in
         rw (h, q) (z .0, z .1)

@@ -6,7 +6,7 @@ ghost use Prim.Native.Nat.{_+_, _≤_, _<_};
 ghost use lib.Dec.{ltb};
 ghost use lib.ListN.{length, getD, take, drop};
 ghost use Rattle.plan.specs.Cut.{fromBy, cutBy, eomAt, Bytewise, offsetBytes};
-ghost use Rattle.plan.specs.Opening.{opening};
+ghost use Rattle.plan.specs.Start.{startBytes};
 ghost use Rattle.motorist.specs.Piston.{cryptEnd, eom};
 ghost use Rattle.motorist.specs.Motorist.{taken};
 ghost use Rattle.motorist.specs.Instance.{tagLength};
@@ -122,9 +122,9 @@ pub fn offsets(cut: Cut, eom: u8) -> [u8; 4]
 }
 
 // Byte i of what a start injects: key pack, nonce, the number of Pistons (1) and the index of this one (0).
-fn opening_byte(pack: ByteCount, key: &[u8], nonce: &[u8], i: ByteCount) -> u8
+fn start_byte(pack: ByteCount, key: &[u8], nonce: &[u8], i: ByteCount) -> u8
     requires { ⌜ (pack .0 < 256) × (length (now key) + 2 ≤ pack .0) × (length (now nonce) ≤ 1024) ⌝ }
-    ensures { λ r. ⌜ r ≡ getD (opening (pack .0) (now (key .entry)) (now (nonce .entry))) (i .0) 0 ⌝ }
+    ensures { λ r. ⌜ r ≡ getD (startBytes (pack .0) (now (key .entry)) (now (nonce .entry))) (i .0) 0 ⌝ }
 {
     // both meet indices and the lengths of slices here
     let behind = pack.0;
@@ -148,14 +148,14 @@ fn opening_byte(pack: ByteCount, key: &[u8], nonce: &[u8], i: ByteCount) -> u8
 }
 
 // The stretch of what a start injects that begins at byte `from` and is as long as out.
-pub fn opening_part(pack: ByteCount, key: &[u8], nonce: &[u8], from: ByteCount, out: &mut [u8])
+pub fn start_part(pack: ByteCount, key: &[u8], nonce: &[u8], from: ByteCount, out: &mut [u8])
     requires { ⌜ (pack .0 < 256) × (length (now key) + 2 ≤ pack .0) × (length (now nonce) ≤ 1024) ⌝ }
-    requires { ⌜ from .0 + length (now out) ≤ length (opening (pack .0) (now key) (now nonce)) ⌝ }
-    ensures { λ r. ⌜ now (out .exit) ≡ take (length (now (out .entry))) (drop (from .0) (opening (pack .0) (now (key .entry)) (now (nonce .entry)))) ⌝ }
+    requires { ⌜ from .0 + length (now out) ≤ length (startBytes (pack .0) (now key) (now nonce)) ⌝ }
+    ensures { λ r. ⌜ now (out .exit) ≡ take (length (now (out .entry))) (drop (from .0) (startBytes (pack .0) (now (key .entry)) (now (nonce .entry)))) ⌝ }
 {
     let mut j = 0;
     while j < out.len() {
-        out[j] = opening_byte(pack, key, nonce, rates::sum(from, ByteCount(j)));
+        out[j] = start_byte(pack, key, nonce, rates::sum(from, ByteCount(j)));
         j += 1;
     }
 }

@@ -2,7 +2,7 @@
 use mathlib.Core.Path.{_≡_}
 use Prim.Native.Nat.{ℕ}
 use Rattle.motorist.specs.Instance.{Instance, textRate, fullRate, packLength, chainLength, tagLength}
-use Rattle.rates.specs.declared.bytes.ByteCount.{ByteCount}
+use Rattle.rates.specs.declared.byte_count.ByteCount.{ByteCount}
 use Rattle.rates.specs.declared.Rates.{Rates}
 
 -- n bytes

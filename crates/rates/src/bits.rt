@@ -2,7 +2,7 @@
 ghost use mathlib.Core.Path.{_≡_};
 ghost use Prim.Native.Nat.{_-_, _*_, _/_, _<_, _≤_, max};
 ghost use Rattle.motorist.specs.Instance.{inBytes, roundUp};
-use crate::bytes::ByteCount;
+use crate::byte_count::ByteCount;
 
 pub struct BitCount(pub usize);
 

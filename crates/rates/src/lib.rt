@@ -5,7 +5,7 @@ ghost use Rattle.motorist.specs.Instance.{solo, lake, river};
 ghost use Rattle.rates.specs.Counts.{RatesOf};
 
 mod bits;
-mod bytes;
+mod byte_count;
 
 use bits::BitCount;
 use bits::in_bytes;
@@ -13,15 +13,15 @@ use bits::lanes_around;
 use bits::lanes_within;
 use bits::larger;
 use bits::left_of;
-pub use bytes::ByteCount;
-pub use bytes::CHAIN_BYTES;
-pub use bytes::as_byte;
-pub use bytes::below;
-pub use bytes::is_none;
-pub use bytes::length_of;
-pub use bytes::lesser;
-pub use bytes::rest;
-pub use bytes::sum;
+pub use byte_count::ByteCount;
+pub use byte_count::CHAIN_BYTES;
+pub use byte_count::as_byte;
+pub use byte_count::below;
+pub use byte_count::is_none;
+pub use byte_count::length_of;
+pub use byte_count::lesser;
+pub use byte_count::rest;
+pub use byte_count::sum;
 
 // What the block code needs to know of an instance.
 pub struct Rates {

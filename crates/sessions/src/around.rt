@@ -1,6 +1,10 @@
 // Whether the look at the bytes around a lent part can fail: of an array with 16 bytes lent each byte is changed in turn.
 ghost use Prim.Native.Nat.{_<_, _≤_};
 ghost use lib.ListN.{length};
+use trials::say;
+use trials::tally::Tally;
+use trials::tally::add;
+use trials::tally::none;
 use vectors::guard::BEFORE;
 use vectors::guard::TAG_ARRAY;
 use vectors::guard::kept;
@@ -24,28 +28,21 @@ fn seen_at(i: usize) -> bool
     seen_in(&mut array, i)
 }
 
-fn one(yes: bool) -> usize
-    ensures { λ r. ⌜ r ≤ 1 ⌝ }
-{
-    if yes { 1 } else { 0 }
-}
-
-// How many changes are seen: all but those of the lent part.
-fn changes_seen() -> usize {
-    let mut n = 0;
+// Each change, seen or not: all are seen but those of the lent part.
+fn changes() -> Tally {
+    let mut t = none();
     let mut i = 0;
     while i < TAG_ARRAY {
-        n = n + one(seen_at(i));
+        let more = add(t, seen_at(i));
+        t = more;
         i += 1;
     }
-    n
+    t
 }
 
 pub fn tell() {
-    io::write_all(
-        libc::STDOUT_FILENO,
-        b"changes of a byte around a lent part: ",
-    );
-    io::print_decimal(libc::STDOUT_FILENO, changes_seen() as u64);
-    io::write_all(libc::STDOUT_FILENO, b" of 80 seen\n");
+    let t = changes();
+    say::text(b"changes of a byte around a lent part: ");
+    say::number(t.agreed);
+    say::text(b" of 80 seen\n");
 }

@@ -1,12 +1,12 @@
 // The session record in hand, in one form for both instances, and each public call on it. Only here do Lake and River part.
-use crate::state::State;
-use crate::state::lake_bytes;
-use crate::state::lake_lanes;
-use crate::state::river_bytes;
-use crate::state::river_lanes;
 use table::Answer;
 use table::Phase;
 use table::StartTag;
+use trials::lanes::State;
+use trials::lanes::bytes32;
+use trials::lanes::bytes64;
+use trials::lanes::from_bytes32;
+use trials::lanes::from_bytes64;
 
 // The lanes are in hand as bytes.
 pub struct Hand {
@@ -30,7 +30,7 @@ pub struct Rounds {
 
 fn to_lake(h: Hand) -> lake::Session {
     let state = h.state;
-    let lanes = lake_lanes(state);
+    let lanes = from_bytes64(state);
     let phase = h.phase;
     lake::Session {
         lanes,
@@ -41,7 +41,7 @@ fn to_lake(h: Hand) -> lake::Session {
 
 fn to_river(h: Hand) -> river::Session {
     let state = h.state;
-    let lanes = river_lanes(state);
+    let lanes = from_bytes32(state);
     let phase = h.phase;
     river::Session {
         lanes,
@@ -52,7 +52,7 @@ fn to_river(h: Hand) -> river::Session {
 
 fn of_lake(s: lake::Session) -> Hand {
     let lanes = s.lanes;
-    let state = lake_bytes(lanes);
+    let state = bytes64(lanes);
     let phase = s.phase;
     Hand {
         river: false,
@@ -64,7 +64,7 @@ fn of_lake(s: lake::Session) -> Hand {
 
 fn of_river(s: river::Session) -> Hand {
     let lanes = s.lanes;
-    let state = river_bytes(lanes);
+    let state = bytes32(lanes);
     let phase = s.phase;
     Hand {
         river: true,
@@ -143,17 +143,17 @@ fn with_state(h: Hand, state: State) -> Hand {
 pub fn permute(h: Hand, rounds: usize) -> Rounds {
     let state = h.state;
     if h.river {
-        let p = keccak32::permute(river_lanes(state), rounds);
+        let p = keccak32::permute(from_bytes32(state), rounds);
         let lanes = p.lanes;
-        let hand = with_state(h, river_bytes(lanes));
+        let hand = with_state(h, bytes32(lanes));
         return Rounds {
             rounds: p.rounds,
             hand,
         };
     }
-    let p = keccak64::permute(lake_lanes(state), rounds);
+    let p = keccak64::permute(from_bytes64(state), rounds);
     let lanes = p.lanes;
-    let hand = with_state(h, lake_bytes(lanes));
+    let hand = with_state(h, bytes64(lanes));
     Rounds {
         rounds: p.rounds,
         hand,

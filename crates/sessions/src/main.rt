@@ -2,84 +2,84 @@
 // and says how many calls agreed in everything that the file tells, and how many differed.
 mod around;
 mod hand;
-mod state;
 mod steps;
 
 ghost use mathlib.Core.Path.{_≡_};
 ghost use Prim.Native.Nat.{_<_, _≤_};
 ghost use lib.ListN.{length};
+use bytes::scan::find;
+use decimal::LARGEST;
 use hand::Hand;
 use hand::unstarted;
 use std::num::wrapping_add_usize;
 use steps::Step;
+use trials::say;
 use vectors::compare::told;
-use vectors::read::LARGEST;
 use vectors::read::begun;
 use vectors::read::ends;
 use vectors::read::number;
-use vectors::read::until;
-use vectors::tally;
-use vectors::tally::Tally;
-use vectors::tally::add;
-use vectors::tally::next_line;
+use vectors::tallies;
+use vectors::tallies::Tallies;
+use vectors::tallies::add;
+use vectors::tallies::next_line;
 
-// The record in hand, and the tally so far.
+// The record in hand, and the tallies so far.
 struct Progress {
     hand: Hand,
-    tally: Tally,
+    tallies: Tallies,
 }
 
 // A line that is no call: it counts only where it differs.
-fn noted(hand: Hand, t: Tally, same: bool) -> Progress {
+fn noted(hand: Hand, t: Tallies, same: bool) -> Progress {
     if same {
-        return Progress { hand, tally: t };
+        return Progress { hand, tallies: t };
     }
-    let tally = add(t, tally::NO_CALL, false);
-    Progress { hand, tally }
+    let tallies = add(t, tallies::NO_CALL, false);
+    Progress { hand, tallies }
 }
 
-// lake NUMBER, or river NUMBER: opens a session, with the unstarted record in hand.
-fn opened(line: &[u8], t: Tally, river: bool) -> Progress {
+// lake NUMBER, or river NUMBER: begins a session, with the unstarted record in hand.
+fn another(line: &[u8], t: Tallies, river: bool) -> Progress {
     let n = number(line, begun(line), LARGEST);
     noted(unstarted(river), next_line(t, true), ends(line, n.seen))
 }
 
 // hold ..: the record in hand was replaced.
-fn held(t: Tally, s: Step) -> Progress {
+fn held(t: Tallies, s: Step) -> Progress {
     let hand = s.hand;
     noted(hand, next_line(t, false), s.same)
 }
 
 // A call that was made and compared; `kind` is its place among those of its instance.
-fn called(t: Tally, kind: usize, s: Step) -> Progress {
+fn called(t: Tallies, kind: usize, s: Step) -> Progress {
     let hand = s.hand;
     let more = next_line(t, false);
     if hand.river {
-        let tally = add(more, wrapping_add_usize(kind, 4), s.same);
-        return Progress { hand, tally };
+        let tallies = add(more, wrapping_add_usize(kind, 4), s.same);
+        return Progress { hand, tallies };
     }
-    let tally = add(more, kind, s.same);
-    Progress { hand, tally }
+    let tallies = add(more, kind, s.same);
+    Progress { hand, tallies }
 }
 
 // end SESSIONS CALLS: the totals are to be those counted here.
-fn ended(line: &[u8], hand: Hand, t: Tally) -> Progress {
+fn ended(line: &[u8], hand: Hand, t: Tallies) -> Progress {
     let sessions = told(line, begun(line), t.sessions);
-    let calls = told(line, sessions, tally::calls(t));
-    noted(hand, tally::ended(next_line(t, false)), ends(line, calls))
+    let calls = told(line, sessions, tallies::calls(t));
+    noted(hand, tallies::ended(next_line(t, false)), ends(line, calls))
 }
 
 // One line, by its first letter.
 fn turn(line: &[u8], r: Progress) -> Progress {
     let h = r.hand;
-    let t = r.tally;
+    let t = r.tallies;
     if line.len() == 0 {
         return noted(h, next_line(t, false), true);
     }
     match line[0] {
         b'#' => noted(h, next_line(t, false), true),
-        b'l' => opened(line, t, false),
-        b'r' => opened(line, t, true),
+        b'l' => another(line, t, false),
+        b'r' => another(line, t, true),
         b'h' => held(t, steps::hold(line, h)),
         b's' => called(t, 0, steps::start(line, h)),
         b'w' => called(t, 1, steps::message(line, h, false)),
@@ -98,22 +98,22 @@ fn past(at: usize, end: usize, most: usize) -> usize
     if end < most { end + 1 } else { end }
 }
 
-fn lines(file: &[u8]) -> Tally {
+fn lines(file: &[u8]) -> Tallies {
     let hand = unstarted(false);
-    let tally = tally::none();
-    let mut r = Progress { hand, tally };
+    let tallies = tallies::none();
+    let mut r = Progress { hand, tallies };
     let mut at = 0;
     while at < file.len() {
-        let end = until(file, at, b'\n');
+        let end = find(file, at, file.len(), b'\n');
         let one = turn(&file[at..end], r);
         r = one;
         at = past(at, end, file.len());
     }
-    let t = r.tally;
+    let t = r.tallies;
     if t.ended {
         return t;
     }
-    add(t, tally::NO_CALL, false)
+    add(t, tallies::NO_CALL, false)
 }
 
 // The files, in the order in which they are run and told.
@@ -160,29 +160,29 @@ fn load(which: usize, file: &mut [u8]) -> usize
 }
 
 // The Keyak team's vectors, if a user supplied some.
-fn tell_team(size: usize, t: Tally) {
+fn tell_team(size: usize, t: Tallies) {
     if size == 0 {
-        io::write_all(libc::STDOUT_FILENO, b"team vectors: 0 supplied\n");
+        say::text(b"team vectors: 0 supplied\n");
         return;
     }
-    tally::total(b"team vectors: ", t);
+    tallies::total(b"team vectors: ", t);
 }
 
-fn tell_sessions(t: Tally) {
-    tally::table(t);
-    tally::total(b"sessions: ", t);
+fn tell_sessions(t: Tallies) {
+    tallies::table(t);
+    tallies::total(b"sessions: ", t);
 }
 
 // How a file of `size` bytes came out.
-fn tell(which: usize, size: usize, t: Tally) {
+fn tell(which: usize, size: usize, t: Tallies) {
     match which {
-        SAMPLE => tally::total(b"vectors of the second program: ", t),
-        WRONG => tally::total(b"the same with one wrong byte: ", t),
-        LATE => tally::total(b"the last of 65,535 bytes wrong: ", t),
-        WORDS => tally::total(b"one wrong word in each line: ", t),
-        UNSOUND => tally::total(b"lines outside the layout: ", t),
+        SAMPLE => tallies::total(b"vectors of the second program: ", t),
+        WRONG => tallies::total(b"the same with one wrong byte: ", t),
+        LATE => tallies::total(b"the last of 65,535 bytes wrong: ", t),
+        WORDS => tallies::total(b"one wrong word in each line: ", t),
+        UNSOUND => tallies::total(b"lines outside the layout: ", t),
         TEAM => tell_team(size, t),
-        RANDOM => tally::total(b"random sessions: ", t),
+        RANDOM => tallies::total(b"random sessions: ", t),
         _ => tell_sessions(t),
     }
 }

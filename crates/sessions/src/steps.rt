@@ -4,11 +4,12 @@ ghost use lib.ListN.{length};
 use crate::hand;
 use crate::hand::Hand;
 use crate::hand::Turn;
-use crate::state::LAKE_BYTES;
-use crate::state::RIVER_BYTES;
-use crate::state::State;
+use decimal::LARGEST;
 use table::Phase;
 use table::StartTag;
+use trials::lanes::BYTES32;
+use trials::lanes::BYTES64;
+use trials::lanes::State;
 use vectors::compare::answer;
 use vectors::compare::bytes;
 use vectors::compare::count;
@@ -17,7 +18,6 @@ use vectors::guard::TAG_ARRAY;
 use vectors::guard::kept;
 use vectors::guard::lent;
 use vectors::guard::output_array;
-use vectors::read::LARGEST;
 use vectors::read::Seen;
 use vectors::read::begun;
 use vectors::read::ends;
@@ -58,7 +58,7 @@ fn use_of(n: usize) -> StartTag {
 // The lanes in hand, as bytes.
 fn lanes(line: &[u8], seen: Seen, river: bool, state: State) -> Seen {
     if river {
-        return bytes(line, seen, &state[0..RIVER_BYTES]);
+        return bytes(line, seen, &state[0..BYTES32]);
     }
     bytes(line, seen, &state)
 }
@@ -87,7 +87,7 @@ fn guarded(s: Step, around: bool) -> Step {
 
 // Whether so many bytes are all the lanes, or none.
 fn are_lanes(length: usize, river: bool) -> bool {
-    let all = if river { RIVER_BYTES } else { LAKE_BYTES };
+    let all = if river { BYTES32 } else { BYTES64 };
     (length == 0) | (length == all)
 }
 

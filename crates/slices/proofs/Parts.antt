@@ -1,4 +1,4 @@
--- Parts of a list: one that was lent and came back, one cut at the end, one copied, one more element done.
+-- Parts of a list: one that was lent and came back, the front, one copied, one more element done.
 use mathlib.Core.Path.{_≡_, refl, sym, _∙_}
 use mathlib.Core.List.{List, [], _∷_, _++_, append-assoc}
 use Prim.Native.Nat.{ℕ, zero, suc, _+_, _≤_, _<_}

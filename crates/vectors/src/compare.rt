@@ -1,11 +1,11 @@
 // Holding what a call answered and left against the words of a line: numbers, and every byte of a buffer. A '-' expects nothing.
 ghost use mathlib.Core.Path.{_≡_};
 ghost use lib.ListN.{length};
-use crate::read::LARGEST;
 use crate::read::Seen;
 use crate::read::dash;
 use crate::read::given;
 use crate::read::number;
+use decimal::LARGEST;
 use table::Answer;
 
 // A number that must be told.

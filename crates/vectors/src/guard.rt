@@ -5,7 +5,7 @@ ghost use lib.ListN.{length};
 use crate::read::Part;
 use crate::read::Seen;
 use crate::read::given;
-use crate::read::least;
+use slices::least;
 
 // So many bytes lie before each lent part, and at least as many after it.
 pub const BEFORE: usize = 32;

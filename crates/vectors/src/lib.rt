@@ -1,7 +1,7 @@
 // The layout of vectors (docs/VECTORS.md): reading the words of a line, comparing with them, the bytes around a
-// lent buffer, and the tally of what agreed.
+// lent buffer, and the tallies of what agreed.
 // Serves the programs; no public call.
 pub mod compare;
 pub mod guard;
 pub mod read;
-pub mod tally;
+pub mod tallies;

@@ -1,31 +1,13 @@
 // Reading a line of the vector layout (docs/VECTORS.md): words with a space between two, numbers, and bytes in five words.
 // Each reader says too whether its words were sound, so that a line outside the layout is seen.
 ghost use mathlib.Core.Path.{_≡_};
-ghost use Prim.Native.Nat.{_≤_, min};
+ghost use Prim.Native.Nat.{_≤_};
 ghost use lib.ListN.{length};
-use std::num::wrapping_add_u8;
+use bytes::scan::find;
+use slices::least;
 use std::num::wrapping_add_usize;
-
-pub fn least(a: usize, b: usize) -> usize
-    ensures { λ r. ⌜ r ≡ min a b ⌝ }
-{
-    if a <= b { a } else { b }
-}
-
-// The place of the first `stop` from `from` on, or the end.
-pub fn until(s: &[u8], from: usize, stop: u8) -> usize
-    requires { ⌜ from ≤ length (now s) ⌝ }
-    ensures { λ r. ⌜ (from ≤ r) × (r ≤ length (now (s .entry))) ⌝ }
-{
-    let mut i = from;
-    while i < s.len() {
-        if s[i] == stop {
-            return i;
-        }
-        i += 1;
-    }
-    i
-}
+use trials::pattern::Pattern;
+use trials::pattern::fill;
 
 // Where a word begins and ends.
 struct Span {
@@ -38,7 +20,7 @@ fn word(line: &[u8], at: usize) -> Span
     ensures { λ r. ⌜ (r .from ≤ r .to) × (r .to ≤ length (now (line .entry))) ⌝ }
 {
     let from = least(at, line.len());
-    let to = until(line, from, b' ');
+    let to = find(line, from, line.len(), b' ');
     Span { from, to }
 }
 
@@ -84,38 +66,6 @@ pub fn dash(line: &[u8], seen: Seen) -> Seen {
     }
 }
 
-// The largest number of 14 digits, and what stands for a word that is no number.
-pub const LARGEST: usize = 99999999999999;
-
-const NO_NUMBER: usize = 100000000000000;
-
-// One digit more; a number of more than 14 digits, or with anything else in it, is none.
-fn tenfold(n: usize, digit: u8) -> usize {
-    if digit < b'0' {
-        return NO_NUMBER;
-    }
-    if b'9' < digit {
-        return NO_NUMBER;
-    }
-    if n < 10000000000000 {
-        return n * 10 + (digit - b'0') as usize;
-    }
-    NO_NUMBER
-}
-
-fn decimal(digits: &[u8]) -> usize {
-    if digits.len() == 0 {
-        return NO_NUMBER;
-    }
-    let mut n = 0;
-    let mut i = 0;
-    while i < digits.len() {
-        n = tenfold(n, digits[i]);
-        i += 1;
-    }
-    n
-}
-
 // A number that was read, and the line past it.
 pub struct Value {
     pub value: usize,
@@ -129,13 +79,13 @@ pub fn number(line: &[u8], seen: Seen, most: usize) -> Value
     let w = word(line, seen.next);
     let from = w.from;
     let to = w.to;
-    let n = decimal(&line[from..to]);
+    let n = decimal::read(&line[from..to], most);
     let past = Seen {
-        same: seen.same & (n <= LARGEST) & (n <= most),
+        same: seen.same & n.digits & n.fits,
         next: after(w),
     };
     Value {
-        value: least(n, most),
+        value: n.value,
         seen: past,
     }
 }
@@ -194,26 +144,44 @@ fn place_told(hex: &[u8], into: &mut [u8]) -> bool {
     place(hex, into)
 }
 
-// The byte after x in the pattern, where x stands at i.
-fn next_byte(x: u8, a: u8, i: usize) -> u8 {
-    if a == 0 {
-        return x;
-    }
-    let y = wrapping_add_u8(x, a);
-    if i % 256 == 255 {
-        return wrapping_add_u8(y, 29);
-    }
-    y
+// A pattern that was read, and the line past it.
+struct Drawn {
+    pattern: Pattern,
+    seen: Seen,
 }
 
-// Byte i is a * i + b + 29 * (i / 256), modulo 256; where a is 0, every byte is b.
-fn fill(into: &mut [u8], a: u8, b: u8) {
-    let mut x = b;
-    let mut i = 0;
-    while i < into.len() {
-        into[i] = x;
-        x = next_byte(x, a, i);
-        i += 1;
+fn low(n: usize) -> u8 {
+    (n % 256) as u8
+}
+
+// The words A B: byte i is A * i + B + 29 * (i / 256), modulo 256; where A is 0, every byte is B.
+fn pattern(line: &[u8], seen: Seen) -> Drawn
+    ensures { λ r. ⌜ r .pattern .period ≡ 256 ⌝ }
+{
+    let a = number(line, seen, 255);
+    let b = number(line, a.seen, 255);
+    let past = b.seen;
+    let pattern = Pattern {
+        first: low(b.value),
+        step: low(a.value),
+        period: 256,
+        lift: 29,
+    };
+    Drawn {
+        pattern,
+        seen: past,
+    }
+}
+
+// The word HEX, whose bytes go to the front of `into`.
+fn hex(line: &[u8], seen: Seen, into: &mut [u8]) -> Seen {
+    let w = word(line, seen.next);
+    let from = w.from;
+    let to = w.to;
+    let sound = place_told(&line[from..to], into);
+    Seen {
+        same: seen.same & sound,
+        next: after(w),
     }
 }
 
@@ -223,29 +191,16 @@ pub struct Part {
     pub seen: Seen,
 }
 
-fn low(n: usize) -> u8 {
-    (n % 256) as u8
-}
-
 // The words LENGTH A B PLACE HEX: so many bytes of the pattern, then the bytes HEX from PLACE on. They go to the front of `into`.
 pub fn given(line: &[u8], seen: Seen, into: &mut [u8]) -> Part
     ensures { λ r. ⌜ r .length ≤ length (now (into .entry)) ⌝ }
 {
     let size = number(line, seen, into.len());
     let length = size.value;
-    let a = number(line, size.seen, 255);
-    let b = number(line, a.seen, 255);
-    let first = number(line, b.seen, length);
-    let start = first.value;
-    let told = first.seen;
-    let w = word(line, told.next);
-    let from = w.from;
-    let to = w.to;
-    fill(&mut into[0..length], low(a.value), low(b.value));
-    let sound = place_told(&line[from..to], &mut into[start..length]);
-    let past = Seen {
-        same: told.same & sound,
-        next: after(w),
-    };
+    let drawn = pattern(line, size.seen);
+    let place = number(line, drawn.seen, length);
+    let start = place.value;
+    fill(&mut into[0..length], drawn.pattern);
+    let past = hex(line, place.seen, &mut into[start..length]);
     Part { length, seen: past }
 }

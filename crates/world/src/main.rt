@@ -1,12 +1,12 @@
 // Runs published vectors through the public permutation at both widths, and says of each group how many agreed and how many differed.
 mod compare;
 mod hashes;
-mod lanes;
 mod sponge;
 mod states32;
 mod states64;
 
-use compare::sum;
+use trials::tally::sum;
+use trials::tally::tell;
 
 fn main() {
     let hashes = sum(
@@ -21,5 +21,5 @@ fn main() {
         states32::zero(),
         sum(states32::counts(), states32::refusals()),
     );
-    compare::said(b"in all", sum(hashes, sum(lanes64, lanes32)));
+    tell(b"in all", sum(hashes, sum(lanes64, lanes32)));
 }

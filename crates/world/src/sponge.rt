@@ -1,8 +1,9 @@
 // The sponge that SHA3, SHAKE and TurboSHAKE are, over the public permutation of 64-bit lanes.
-use crate::lanes::byte64;
 use keccak64::permute;
 use std::num::wrapping_add_usize;
 use std::num::wrapping_sub_usize;
+use trials::lanes::byte64;
+use trials::lanes::part;
 
 // A kind of hash: the bytes of a block, the rounds of the permutation, and the byte that follows the message.
 pub struct Kind {
@@ -21,7 +22,7 @@ struct Sponge {
 fn mixed(lanes: [u64; 25], at: usize, b: u8) -> [u64; 25] {
     let q = at / 8 % 25;
     let mut s = lanes;
-    s[q] = s[q] ^ ((b as u64) << (8 * (at % 8)));
+    s[q] = s[q] ^ part(b, at % 8);
     s
 }
 

@@ -1,51 +1,99 @@
-// The main job, run in the gate on what stops it before it seals: no arguments, another word than lake or river, a file that is
-// not there or is too long, a file without months, a key or a nonce of a wrong length, and a file in which nearly every line is
-// wrong in another way; and with River on a file of three wells. Each case is named, then what the job says.
+// The main job, run in the gate on what stops it before it seals, and on what it takes though it looks odd. Each case is named, then
+// what the job says; what is wrong is sent to standard output here, so that it is held to what is stored, but for the first two
+// cases, which show that the job itself sends none of it there.
+use libc::STDERR_FILENO;
+use libc::STDOUT_FILENO;
 
 // A case with the sample's key and nonce.
 fn on(title: &[u8], word: &[u8], dips: &[u8]) {
-    show::put(title);
-    year_job::run_on(word, dips, b"sample.key", b"sample.nonce");
+    show::put(STDOUT_FILENO, title);
+    year_job::run_on(STDOUT_FILENO, word, dips, b"sample.key", b"sample.nonce");
 }
 
 // A case with another key.
 fn keyed(title: &[u8], word: &[u8], key: &[u8]) {
-    show::put(title);
-    year_job::run_on(word, b"dips.txt", key, b"sample.nonce");
+    show::put(STDOUT_FILENO, title);
+    year_job::run_on(STDOUT_FILENO, word, b"dips.txt", key, b"sample.nonce");
 }
 
-fn words() {
-    show::put(b"-- no arguments\n");
+// A case with another nonce.
+fn once(title: &[u8], nonce: &[u8]) {
+    show::put(STDOUT_FILENO, title);
+    year_job::run_on(STDOUT_FILENO, b"river", b"dips.txt", b"sample.key", nonce);
+}
+
+fn elsewhere() {
+    show::put(STDOUT_FILENO, b"-- no arguments: told on standard error\n");
     year_job::run();
-    on(b"-- neither lake nor river\n", b"sea", b"dips.txt");
-    on(b"-- a file that is not there\n", b"lake", b"absent.txt");
+    show::put(STDOUT_FILENO, b"-- wrong lines: told on standard error\n");
+    year_job::run_on(
+        STDERR_FILENO,
+        b"lake",
+        b"bad.txt",
+        b"sample.key",
+        b"sample.nonce",
+    );
 }
 
 fn files() {
-    keyed(b"-- a key file that is too long\n", b"lake", b"dips.txt");
+    on(b"-- neither lake nor river\n", b"sea", b"dips.txt");
+    on(b"-- a file that is not there\n", b"lake", b"absent.txt");
+    on(b"-- a folder\n", b"lake", b".");
+    on(
+        b"-- a file of dips that is too long\n",
+        b"lake",
+        b"long.txt",
+    );
     on(b"-- no month in the file\n", b"lake", b"empty.txt");
+    on(b"-- a byte order mark\n", b"lake", b"mark.txt");
+    on(b"-- a byte order mark of UTF-16\n", b"lake", b"wide.txt");
 }
 
 fn keys() {
     keyed(b"-- a key of 15 bytes\n", b"lake", b"short.key");
-    keyed(b"-- a key of 33 bytes\n", b"river", b"long.key");
+    keyed(
+        b"-- a key of 32 bytes and a line end\n",
+        b"river",
+        b"long.key",
+    );
+    keyed(b"-- a key file that is too long\n", b"lake", b"long.txt");
+    once(b"-- a nonce of 1025 bytes\n", b"long.nonce");
+    once(b"-- a nonce file that is too long\n", b"long.txt");
 }
 
-fn nonce() {
-    show::put(b"-- a nonce of 1025 bytes\n");
-    year_job::run_on(b"river", b"dips.txt", b"sample.key", b"long.nonce");
+fn lines() {
+    on(b"-- lines that are no months\n", b"lake", b"bad.txt");
+    on(
+        b"-- lines that are not of one borehole's year\n",
+        b"river",
+        b"mixed.txt",
+    );
+    on(b"-- a thirteenth month\n", b"lake", b"thirteen.txt");
 }
 
-fn wells() {
-    show::put(b"-- three wells with River\n");
-    year_job::run_on(b"river", b"wells.txt", b"wells.key", b"wells.nonce");
+fn odd() {
+    keyed(
+        b"-- a key of 16 bytes and a line end\n",
+        b"lake",
+        b"ended.key",
+    );
+    on(
+        b"-- a well named #3, and a comment\n",
+        b"lake",
+        b"third.txt",
+    );
+    on(
+        b"-- wells may be named #, and lines may end in CR LF\n",
+        b"river",
+        b"hash.txt",
+    );
+    on(b"-- a well read daily\n", b"river", b"daily.txt");
 }
 
 fn main() {
-    words();
+    elsewhere();
     files();
     keys();
-    nonce();
-    wells();
-    on(b"-- lines that are no months\n", b"lake", b"bad.txt");
+    lines();
+    odd();
 }

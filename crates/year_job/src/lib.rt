@@ -1,109 +1,110 @@
-// The main job: a year of dips, read from a plain text file, sealed month by month with Lake or River, opened again on a second
-// session and shown; then what must be refused. Arguments: lake or river, the file of dips, the key file, the nonce file.
-// The program year is this job on the sample year; year_cases shows what stops it before it seals, and three wells with River.
+// The main job: one borehole's year of dips, read from a plain text file, sealed month by month with Lake or River, opened again on a
+// second session and shown; then what must be refused. Arguments: lake or river, the file of dips, the key file, the nonce file.
+// The table goes to standard output; what is wrong goes to one other place, standard error, and ends in "Nothing was sealed."
+// The program year is this job on the sample year; year_cases shows what stops it before it seals, and what it takes.
 ghost use Prim.Native.Nat.{_≤_};
 ghost use lib.ListN.{length};
 
 mod attacks;
-mod reading;
+mod files;
 mod rows;
 mod sealing;
+mod secrets;
 
-use packets::Instance;
+use channel::Instance;
+use files::Loaded;
+use libc::STDERR_FILENO;
 
-// What was read of a file: `ok` where it is all of it.
-struct Loaded {
-    ok: bool,
-    length: usize,
-}
-
-// The end of a file that was read into a buffer: whether there is no more, and no read failed.
-fn is_read(file: i32, path: &[u8]) -> bool {
-    let mut more = [0u8; 1];
-    let got = libc::read(file, &mut more);
-    if got < 0 {
-        os::fail(path);
-        return false;
+// The files as they were read.
+fn run_read(
+    errors: i32,
+    instance: Instance,
+    dips_path: &[u8],
+    dips: &[u8],
+    key_path: &[u8],
+    key: &[u8],
+    nonce_path: &[u8],
+    nonce: &[u8],
+) {
+    if !secrets::usable(errors, instance, key_path, key, nonce_path, nonce) {
+        return wrong::file::nothing(errors);
     }
-    if 0 < got {
-        show::put(path);
-        show::put(b": too long\n");
-        return false;
-    }
-    true
+    sealing::run(errors, instance, dips_path, dips, key, nonce);
 }
 
-fn load(path: &[u8], into: &mut [u8]) -> Loaded
-    ensures { λ r. ⌜ r .length ≤ length (now (into .exit)) ⌝ }
-{
-    let file = os::open_read(path);
-    if file < 0 {
-        os::fail(path);
-        return Loaded {
-            ok: false,
-            length: 0,
-        };
-    }
-    let length = io::read_full(file, into);
-    let ok = is_read(file, path);
-    libc::close(file);
-    Loaded { ok, length }
-}
-
-fn usage() {
-    show::put(b"usage: year lake|river DIPS KEY NONCE\n");
-    show::put(
-        b"  DIPS   a line a month: well, borehole, year, month, datum, readings; - for a missing one\n",
-    );
-    show::put(b"  KEY    a file of 16 to 32 bytes\n");
-    show::put(b"  NONCE  a file of up to 1024 bytes, for this year and key alone\n");
-}
-
-// The file of dips has at most 16 KiB; of key and nonce more is read than either may have, so that the start refuses them.
-fn run_with(instance: Instance, dips_path: &[u8], key_path: &[u8], nonce_path: &[u8]) {
-    let mut dips = [0u8; 16384];
-    let mut key = [0u8; 64];
-    let mut nonce = [0u8; 2048];
-    let text = load(dips_path, &mut dips);
-    let secret = load(key_path, &mut key);
-    let once = load(nonce_path, &mut nonce);
-    let text_length = text.length;
-    let key_length = secret.length;
-    let nonce_length = once.length;
+// All three files are read before any is looked into, so that each that cannot be read is told.
+fn run_with(errors: i32, instance: Instance, dips_path: &[u8], key_path: &[u8], nonce_path: &[u8]) {
+    let mut dips = [0u8; files::DIPS];
+    let mut key = [0u8; files::KEY];
+    let mut nonce = [0u8; files::NONCE];
+    let text = files::load(errors, dips_path, &mut dips, table::DONE);
+    let secret = files::load(errors, key_path, &mut key, table::KEY_LENGTH);
+    let once = files::load(errors, nonce_path, &mut nonce, table::NONCE_LENGTH);
+    let d = text.length;
+    let k = secret.length;
+    let n = once.length;
     if !(text.ok & secret.ok & once.ok) {
-        return show::put(b"Nothing was sealed.\n");
+        return wrong::file::nothing(errors);
     }
-    sealing::run(
+    run_read(
+        errors,
         instance,
-        &dips[0..text_length],
-        &key[0..key_length],
-        &nonce[0..nonce_length],
+        dips_path,
+        &dips[0..d],
+        key_path,
+        &key[0..k],
+        nonce_path,
+        &nonce[0..n],
     );
 }
 
-// The job by its four words: lake or river, and the names of three files.
-pub fn run_on(word: &[u8], dips_path: &[u8], key_path: &[u8], nonce_path: &[u8]) {
+// The job by its four words: lake or river, and the names of three files. What is wrong goes to `errors`.
+pub fn run_on(errors: i32, word: &[u8], dips_path: &[u8], key_path: &[u8], nonce_path: &[u8]) {
     if slices::same(word, b"lake") {
-        return run_with(Instance::Lake, dips_path, key_path, nonce_path);
+        return run_with(errors, Instance::Lake, dips_path, key_path, nonce_path);
     }
     if slices::same(word, b"river") {
-        return run_with(Instance::River, dips_path, key_path, nonce_path);
+        return run_with(errors, Instance::River, dips_path, key_path, nonce_path);
     }
-    usage();
+    wrong::file::no_instance(errors, word);
+}
+
+// An argument into a buffer; whether it fits.
+fn argument(i: usize, into: &mut [u8]) -> Loaded
+    ensures { λ r. ⌜ r .length ≤ length (now (into .exit)) ⌝ }
+{
+    let length = os::arg(i, into);
+    Loaded {
+        ok: os::errno() == 0,
+        length,
+    }
 }
 
 // The job by the program's arguments.
 pub fn run() {
-    let mut word = [0u8; 8];
+    let mut word = io::buffer();
     let mut dips = io::buffer();
     let mut key = io::buffer();
     let mut nonce = io::buffer();
     if os::arg_count() != 5 {
-        return usage();
+        return wrong::file::usage(STDERR_FILENO);
     }
-    let w = os::arg(1, &mut word);
-    let d = os::arg(2, &mut dips);
-    let k = os::arg(3, &mut key);
-    let n = os::arg(4, &mut nonce);
-    run_on(&word[..w], &dips[..d], &key[..k], &nonce[..n]);
+    let instance = argument(1, &mut word);
+    let text = argument(2, &mut dips);
+    let secret = argument(3, &mut key);
+    let once = argument(4, &mut nonce);
+    if !(instance.ok & text.ok & secret.ok & once.ok) {
+        return wrong::file::long_argument(STDERR_FILENO);
+    }
+    let w = instance.length;
+    let d = text.length;
+    let k = secret.length;
+    let n = once.length;
+    run_on(
+        STDERR_FILENO,
+        &word[0..w],
+        &dips[0..d],
+        &key[0..k],
+        &nonce[0..n],
+    );
 }

@@ -1,23 +1,36 @@
 // The table that a person reads: its head, a row a month, its foot. Serves the main job.
 ghost use mathlib.Core.Path.{_≡_};
 ghost use lib.ListN.{length};
+ghost use Rattle.packets.specs.Packet.{packetBytes};
+use channel::Instance;
 use dip::Header;
-use packets::Instance;
+use show::TABLE;
+use show::put;
+use year_text::Found;
 
-pub fn head(instance: Instance, start_tag: &[u8]) {
+fn name(instance: Instance) -> bool {
     match instance {
-        Instance::Lake => show::put(b"Sealed with Lake, opened on a second session. Start tag "),
-        Instance::River => show::put(b"Sealed with River, opened on a second session. Start tag "),
+        Instance::Lake => put(TABLE, b"Lake"),
+        Instance::River => put(TABLE, b"River"),
     }
-    show::hex(start_tag);
-    show::put(b"\n\nmonth    well          readings  missing  bytes  runs  tag\n");
+}
+
+pub fn head(instance: Instance, start_tag: &[u8]) -> bool {
+    put(TABLE, b"Sealed with ")
+        & name(instance)
+        & put(TABLE, b", opened on a second session. Start tag ")
+        & show::hex(TABLE, start_tag)
+        & put(
+            TABLE,
+            b"\n\nmonth    well          readings  missing  bytes  runs  tag\n",
+        )
 }
 
 fn missing(levels: &[i32]) -> usize {
     let mut n = 0;
     let mut i = 0;
     while i < levels.len() {
-        if levels[i] == dip_text::MISSING {
+        if levels[i] == dip::MISSING {
             n += 1;
         }
         i += 1;
@@ -25,46 +38,77 @@ fn missing(levels: &[i32]) -> usize {
     n
 }
 
-// The columns up to the bytes.
-fn columns(header: Header, gone: usize, bytes: usize) {
-    let name = header.name;
-    show::date(header.year, header.month);
-    show::put(b"  ");
-    show::name(name);
-    show::number_in(header.count as usize, 8);
-    show::number_in(gone, 9);
-    show::number_in(bytes, 7);
+// The columns up to the missing ones.
+fn columns(header: Header, gone: usize) -> bool {
+    let well = header.name;
+    show::date(TABLE, header.year, header.month)
+        & put(TABLE, b"  ")
+        & show::name_in(TABLE, well)
+        & show::number_in(TABLE, header.count as usize, 8)
+        & show::number_in(TABLE, gone, 9)
 }
 
-fn gone(count: usize, readings: &[u8]) -> usize {
+// How many readings of a month are missing; `ok` where they can be read.
+struct Gone {
+    ok: bool,
+    number: usize,
+}
+
+fn count_gone(count: usize, readings: &[u8]) -> Gone {
     let mut levels = [0i32; 31];
-    dip::read_readings(count, readings, &mut levels);
-    missing(&levels)
+    let answer = dip::read_readings(count, readings, &mut levels);
+    Gone {
+        ok: answer.number == table::DONE,
+        number: missing(&levels),
+    }
+}
+
+// What became of a row: whether the month could be read, and whether it was written.
+pub struct Row {
+    pub read: bool,
+    pub written: bool,
 }
 
 // What an opened month says: the header in its packet, and its readings.
-pub fn row(packet: &[u8], readings: &[u8], runs: usize)
-    requires { ⌜ length (now packet) ≡ 164 ⌝ }
+pub fn month(packet: &[u8], readings: &[u8], runs: usize) -> Row
+    requires { ⌜ length (now packet) ≡ packetBytes ⌝ }
 {
-    let read = dip::read_header(&packet[0..24]);
-    let header = read.header;
-    columns(
-        header,
-        gone(header.count as usize, readings),
-        readings.len(),
-    );
-    show::number_in(runs, 6);
-    show::put(b"  ");
-    show::hex(packets::tag(packet));
-    show::put(b"\n");
+    let found = dip::read_header(&packet[0..packets::HEADER]);
+    let header = found.header;
+    let absent = count_gone(header.count as usize, readings);
+    let first = columns(header, absent.number);
+    let second = show::number_in(TABLE, readings.len(), 7)
+        & show::number_in(TABLE, runs, 6)
+        & put(TABLE, b"  ");
+    let third = show::hex(TABLE, packets::tag(packet)) & put(TABLE, b"\n");
+    Row {
+        read: absent.ok & (found.number == table::DONE),
+        written: first & second & third,
+    }
 }
 
-pub fn foot(months: usize, same: bool) {
-    show::put(b"\nMonths: ");
-    show::number(months);
-    if same {
-        show::put(b". Every reading came out as it was sealed.\n");
-    } else {
-        show::put(b". Not every reading came out as it was sealed.\n");
+// What of the file is in the table and what is not.
+fn lines(found: Found) -> bool {
+    let skipped = put(TABLE, b"\nSkipped lines: ")
+        & show::number(TABLE, found.comments)
+        & put(TABLE, b" with a comment, ")
+        & show::number(TABLE, found.blanks)
+        & put(TABLE, b" blank.\n");
+    skipped & put(TABLE, b"Months: ") & show::number(TABLE, found.months) & put(TABLE, b". ")
+}
+
+// The last line says how it came out: the program has no other way to tell. It is the good one only if all before it was `written`;
+// answers whether all was.
+pub fn foot(found: Found, same: bool, refused: bool, written: bool) -> bool {
+    let all = written & lines(found);
+    if !same {
+        return put(TABLE, b"Not every reading came out as it was sealed.\n") & all;
     }
+    if !refused {
+        return put(TABLE, b"A tampered month was not refused.\n") & all;
+    }
+    if !all {
+        return false;
+    }
+    put(TABLE, b"Every reading came out as it was sealed.\n")
 }

@@ -23,14 +23,14 @@ sub-ir c = search needs
 loop-holds : tie.Need-loop-holds Inv-loop μ-loop
 loop-holds c = (omega arith, ap (λ (n : ℕ). roundsL 6 n (c .before .args .a)) (omega arith))
 
-mul-cut : tie.Need-mul-cut Inv-loop μ-loop
-mul-cut c = search needs
+mul-narrowed : tie.Need-mul-narrowed Inv-loop μ-loop
+mul-narrowed c = search needs
 
-array-read-cut : tie.Need-array-read-cut Inv-loop μ-loop
-array-read-cut c = search needs
+array-read-narrowed : tie.Need-array-read-narrowed Inv-loop μ-loop
+array-read-narrowed c = search needs
 
-cut-requires : tie.Need-cut-requires Inv-loop μ-loop
-cut-requires c κs = search needs
+narrowed-requires : tie.Need-narrowed-requires Inv-loop μ-loop
+narrowed-requires c κs = search needs
 
 round-requires : tie.Need-round-requires Inv-loop μ-loop
 round-requires c κs = search needs
@@ -45,7 +45,7 @@ loop-again : tie.Need-loop-again Inv-loop μ-loop
 loop-again c =
     let at = c .before .before .before in
     let h : at .loop .ir < 24 = omega arith in
-    (omega arith, rounds-turn 6 _ _ _ _ _ (omega arith) h (at .before .round-constants .ensures) (c .before .cut .ensures) (c .round .ensures) ∙ at .loop .inv .1)
+    (omega arith, rounds-turn 6 _ _ _ _ _ (omega arith) h (at .before .round-constants .ensures) (c .before .narrowed .ensures) (c .round .ensures) ∙ at .loop .inv .1)
 
 returns : tie.Need-returns Inv-loop μ-loop
 returns c = sym (rounds-none 6 _ _ (omega arith)) ∙ c .before .loop .inv .1
@@ -59,9 +59,9 @@ run-spec =
     round-constants-requires
     sub-ir
     loop-holds
-    mul-cut
-    array-read-cut
-    cut-requires
+    mul-narrowed
+    array-read-narrowed
+    narrowed-requires
     round-requires
     add-ir
     loop-less

@@ -20,8 +20,8 @@ none-requires c κs = search needs
 loop-holds : tie.Need-loop-holds Inv-loop μ-loop
 loop-holds c = search needs
 
-until-requires : tie.Need-until-requires Inv-loop μ-loop
-until-requires c κs = search needs
+find-requires : tie.Need-find-requires Inv-loop μ-loop
+find-requires c κs = search needs
 
 sub-turn : tie.Need-sub-turn Inv-loop μ-loop
 sub-turn c = search needs
@@ -62,7 +62,7 @@ lines-spec =
     unstarted-requires
     none-requires
     loop-holds
-    until-requires
+    find-requires
     sub-turn
     part-turn-start
     part-turn-end

@@ -5,10 +5,10 @@ use Rattle.show.proofs.spaces.Statement.{statement}
 use Rattle.show.proofs.spaces.Tie as tie
 
 abbrev Inv-loop : tie.InvT-loop
-Inv-loop n i₀ t3 i = i ≤ n
+Inv-loop to n all₀ i₀ t5 all i = i ≤ n
 
 abbrev μ-loop : tie.MeasureT-loop
-μ-loop n i₀ t3 i = n - i
+μ-loop to n all₀ i₀ t5 all i = n - i
 
 loop-holds : tie.Need-loop-holds Inv-loop μ-loop
 loop-holds c = search needs

@@ -5,10 +5,10 @@ use Rattle.year_job.proofs.sealing.open_all.Statement.{statement}
 use Rattle.year_job.proofs.sealing.open_all.Tie as tie
 
 abbrev Inv-loop : tie.InvT-loop
-Inv-loop sealed plain months session₀ same₀ i₀ session same i = i ≤ months
+Inv-loop errors sealed plain months session₀ same₀ written₀ i₀ session same written i = i ≤ months
 
 abbrev μ-loop : tie.MeasureT-loop
-μ-loop sealed plain months session₀ same₀ i₀ session same i = months - i
+μ-loop errors sealed plain months session₀ same₀ written₀ i₀ session same written i = months - i
 
 loop-holds : tie.Need-loop-holds Inv-loop μ-loop
 loop-holds c = search needs

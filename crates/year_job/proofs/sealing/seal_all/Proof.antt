@@ -1,16 +1,17 @@
 -- `seal_all`: the sealed packets keep their room.
-use mathlib.Core.Path.{_≡_}
 use Prim.Native.Nat.{_-_}
+use mathlib.Core.Path.{_≡_}
 use borrow.Author.Needs.{needs}
 use lib.ListN.{length}
+use Rattle.packets.specs.Packet.{yearBytes}
 use Rattle.year_job.proofs.sealing.seal_all.Statement.{statement}
 use Rattle.year_job.proofs.sealing.seal_all.Tie as tie
 
 abbrev Inv-loop : tie.InvT-loop
-Inv-loop plain months sealed₀ session₀ i₀ sealed session i = length sealed ≡ 16400
+Inv-loop plain months sealed₀ session₀ number₀ i₀ sealed session number i = length sealed ≡ yearBytes
 
 abbrev μ-loop : tie.MeasureT-loop
-μ-loop plain months sealed₀ session₀ i₀ sealed session i = months - i
+μ-loop plain months sealed₀ session₀ number₀ i₀ sealed session number i = months - i
 
 loop-holds : tie.Need-loop-holds Inv-loop μ-loop
 loop-holds c = search needs
@@ -35,6 +36,9 @@ part-seal-end c = search needs
 
 seal-requires : tie.Need-seal-requires Inv-loop μ-loop
 seal-requires c κs = search needs
+
+or-else-requires : tie.Need-or-else-requires Inv-loop μ-loop
+or-else-requires c κs = search needs
 
 add-i : tie.Need-add-i Inv-loop μ-loop
 add-i c = search needs
@@ -65,6 +69,7 @@ seal-all-spec =
     part-seal-start
     part-seal-end
     seal-requires
+    or-else-requires
     add-i
     loop-less
     loop-again

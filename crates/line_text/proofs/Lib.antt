@@ -1,0 +1,2 @@
+-- The law of a line's first byte that `kind_of` cites.
+pub mod First

@@ -1,0 +1,2 @@
+-- What the crate's inner contracts cite.
+pub mod Bounds

@@ -1,0 +1,3 @@
+// What the main job says where something is wrong: with its words and files, and with a line. Serves the main job.
+pub mod file;
+pub mod line;

@@ -1,5 +1,5 @@
 """The README shows what there is: the sample year's output as the gate compares it, the example as it stands in crates/one_month, and the wrong
-line as year_cases prints it. python3 tests/readme.py leaves with 1 and says what differs."""
+line and the line of two names as year_cases prints them. python3 tests/readme.py leaves with 1 and says what differs."""
 import pathlib
 import re
 import sys
@@ -18,13 +18,14 @@ def main():
         "the example of crates/one_month": example[example.index("pub fn "):],
     }
     missing = [what for what, block in wanted.items() if block not in BLOCKS]
-    wrong = next((block for block in BLOCKS if block.startswith("line ")), "no wrong line\n")
     told = text("crates/year_cases/stdout").splitlines()
-    missing += [line for line in wrong.splitlines() if line not in told]
+    for begins in ("line ", "One borehole, "):
+        shown = next((block for block in BLOCKS if block.startswith(begins)), f"no block that begins with '{begins}'\n")
+        missing += [line for line in shown.splitlines() if line not in told]
     for what in missing:
         print(f"README.md does not show as it is: {what}")
     if not missing:
-        print(f"{len(wanted) + 1} blocks as they are")
+        print(f"{len(wanted) + 2} blocks as they are")
     return 1 if missing else 0
 
 

@@ -307,27 +307,58 @@ pub fn lengths(t: Tally) -> Tally {
     g
 }
 
-// One series: 1 where the names agree, whatever else differs.
+// One series: 1 where the borehole numbers agree, whatever else differs.
 fn one(t: Tally, a: Header, b: Header, expected: u8) -> Tally {
     let number = if dip::same_series(a, b) { 1 } else { 0 };
     group::count(t, number, expected, true)
 }
 
+// The usual borehole under another name, with another month and other levels.
+fn renamed() -> Header {
+    Header {
+        name: [0x4b, 0x57, 0x2d, 0x34, 0, 0, 0, 0, 0, 0, 0, 0],
+        borehole: 4711,
+        year: 1900,
+        month: 1,
+        count: 0,
+        datum: 0,
+    }
+}
+
+// The usual header over another number.
+fn numbered(borehole: u32) -> Header {
+    let mut h = usual();
+    h.borehole = borehole;
+    h
+}
+
+// A header that no reading gives: its name and date are refused.
+fn unread(borehole: u32) -> Header {
+    let mut h = nothing();
+    h.borehole = borehole;
+    h
+}
+
+// One name over two numbers, which differ in one byte alone, from the lowest to the highest, agree in the lowest alone, or in none.
+fn other_numbers(t: Tally) -> Tally {
+    let a = one(t, usual(), numbered(0x1268), 0);
+    let b = one(a, usual(), numbered(0x0067), 0);
+    let c = one(b, usual(), numbered(0x0001_1267), 0);
+    let d = one(c, usual(), numbered(0x0100_1267), 0);
+    let e = one(d, numbered(0x67), numbered(0xffff_ff67), 0);
+    one(e, numbered(1), numbered(0xffff_fffe), 0)
+}
+
 pub fn series(t: Tally) -> Tally {
     group::begin(b"one series");
-    let u = usual();
-    let mut other = usual();
-    other.borehole = 1;
-    other.year = 1900;
-    other.month = 1;
-    other.count = 0;
-    other.datum = 0;
-    let a = one(t, u, u, 1);
-    let b = one(a, u, other, 1);
-    let mut last = usual();
-    last.name = [0x42, 0x4f, 0x52, 0x45, 0x2d, 0x37, 0, 0, 0, 0, 0, 1];
-    let c = one(b, u, last, 0);
-    let d = one(c, nothing(), usual(), 0);
+    let a = one(t, usual(), usual(), 1);
+    let b = one(a, usual(), renamed(), 1);
+    let c = one(b, renamed(), usual(), 1);
+    let d = other_numbers(c);
+    let e = one(d, usual(), unread(4711), 1);
+    let f = one(e, nothing(), nothing(), 1);
+    let g = one(f, numbered(0), nothing(), 1);
+    let h = one(g, nothing(), usual(), 0);
     group::end();
-    d
+    h
 }

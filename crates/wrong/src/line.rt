@@ -9,15 +9,30 @@ fn begin(errors: i32, number: usize) {
     show::put(errors, b": ");
 }
 
-// A line that begins with `#` was perhaps meant as a comment.
-fn end(errors: i32, line: &[u8], words: &[u8]) {
+// The last words; where `hash`, what was read as a month was perhaps meant as a comment.
+fn finish(errors: i32, words: &[u8], hash: bool) {
     show::put(errors, words);
-    if 0 < line.len() {
-        if line[0] == b'#' {
-            show::put(errors, b" (a comment begins with a blank, then #)");
-        }
+    if hash {
+        show::put(errors, b" (a comment begins with a blank, then #)");
     }
     show::put(errors, b"\n");
+}
+
+fn has_hash(line: &[u8]) -> bool {
+    if line.len() == 0 {
+        return false;
+    }
+    line[0] == b'#'
+}
+
+fn end(errors: i32, line: &[u8], words: &[u8]) {
+    finish(errors, words, has_hash(line));
+}
+
+// The same of a line that is held against another month: either may be the one.
+fn end_beside(errors: i32, line: &[u8], other: Header, words: &[u8]) {
+    let name = other.name;
+    finish(errors, words, has_hash(line) | has_hash(&name));
 }
 
 // What a word is, by its place; a reading is counted from 1 among those of the line.
@@ -152,16 +167,6 @@ pub fn thirteenth(errors: i32, number: usize, line: &[u8]) {
 }
 
 // A line that is not of the year that line `other` began, or goes on with: its word, and what it is held against.
-pub fn other_series(errors: i32, number: usize, line: &[u8], first: Header, other: usize) {
-    let name = first.name;
-    begin(errors, number);
-    quoted(errors, line, 0);
-    show::put(errors, b" is another series than ");
-    show::name(errors, name);
-    of_line(errors, other);
-    end(errors, line, b"; a file is one borehole's year");
-}
-
 pub fn other_borehole(errors: i32, number: usize, line: &[u8], first: Header, other: usize) {
     begin(errors, number);
     quoted(errors, line, 1);
@@ -186,7 +191,29 @@ pub fn not_after(errors: i32, number: usize, line: &[u8], last: Header, other: u
     show::put(errors, b" does not come after month ");
     show::number(errors, last.month as usize);
     of_line(errors, other);
-    end(errors, line, b"; months rise, and none is given twice");
+    end_beside(
+        errors,
+        line,
+        last,
+        b"; months rise, and none is given twice",
+    );
+}
+
+// A line that stands, under another name than the month before it: told, so that a name that was mistyped is seen.
+pub fn renamed(errors: i32, number: usize, line: &[u8], last: Header, other: usize) {
+    let name = last.name;
+    show::put(errors, b"note: ");
+    begin(errors, number);
+    quoted(errors, line, 0);
+    show::put(errors, b" is another name than ");
+    show::name(errors, name);
+    of_line(errors, other);
+    end_beside(
+        errors,
+        line,
+        last,
+        b"; the borehole number is the same, so it is one series",
+    );
 }
 
 fn of_line(errors: i32, other: usize) {

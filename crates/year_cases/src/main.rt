@@ -90,10 +90,30 @@ fn odd() {
     on(b"-- a well read daily\n", b"river", b"daily.txt");
 }
 
+fn names() {
+    on(
+        b"-- a well that was given a new name\n",
+        b"lake",
+        b"renamed.txt",
+    );
+    on(
+        b"-- and one that was given several\n",
+        b"river",
+        b"names.txt",
+    );
+    on(b"-- a name a month\n", b"lake", b"twelve.txt");
+    on(
+        b"-- a month left out as comments are not\n",
+        b"lake",
+        b"crossed.txt",
+    );
+}
+
 fn main() {
     elsewhere();
     files();
     keys();
     lines();
     odd();
+    names();
 }

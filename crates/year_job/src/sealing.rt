@@ -7,6 +7,7 @@ use crate::attacks;
 use crate::rows;
 use channel::Channel;
 use channel::Instance;
+use show::TABLE;
 use table::StartTag;
 use year_text::Found;
 
@@ -97,13 +98,14 @@ fn open_all(errors: i32, channel: Channel, sealed: &[u8], plain: &[u8], months: 
     }
 }
 
-// The months opened on the second session, then what it must refuse.
+// The months opened on the second session, the names that the borehole goes by, then what the session must refuse.
 fn open_year(errors: i32, second: Channel, sealed: &[u8], plain: &[u8], found: Found, begun: bool)
     requires { ⌜ (length (now sealed) ≡ yearBytes) × (length (now plain) ≡ yearBytes) × (found .months ≤ 12) ⌝ }
 {
     let opened = open_all(errors, second, sealed, plain, found.months);
+    let named = year_text::names::tell(TABLE, plain, found.months);
     let tries = attacks::try_all(second, sealed, found.months);
-    let written = begun & opened.written & tries.written;
+    let written = begun & opened.written & named & tries.written;
     if !rows::foot(found, opened.same, tries.refused, written) {
         wrong::file::unwritten(errors);
     }

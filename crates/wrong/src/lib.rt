@@ -1,3 +1,3 @@
-// What the main job says where something is wrong: with its words and files, and with a line. Serves the main job.
+// What the main job says where something is wrong, or worth a note: with its words and files, and with a line. Serves the main job.
 pub mod file;
 pub mod line;

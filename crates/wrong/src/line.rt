@@ -1,4 +1,4 @@
-// What is said of a line that does not stand: its number, the word, what is wrong with it and the limit. Serves the main job.
+// What is said of a line: one that does not stand, by its number, the word, what is wrong with it and the limit; and one that stands but is worth a note. Serves the main job.
 use dip::Header;
 use dip_text::Trouble;
 

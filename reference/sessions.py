@@ -9,11 +9,11 @@ in full, as vectors from elsewhere would stand; and what must be reported, made 
 wrongs.py. The same bytes come out each time: all choices follow from SEED.
 """
 
-import os
 import sys
 
 import keyak
 import randoms
+import stored
 import table
 import wrongs
 from book import (Book, Dice, Scribe, flipped, pattern, right_start_tag, right_tag, whole)
@@ -477,44 +477,5 @@ def files():
     yield "unsound.txt", wrongs.unsound_file(SEED)
 
 
-def first_difference(a, b):
-    """Number of the first line in which two texts differ, from 1."""
-    one, other = a.split("\n"), b.split("\n")
-    for i, (x, y) in enumerate(zip(one, other)):
-        if x != y:
-            return i + 1
-    return min(len(one), len(other)) + 1
-
-
-def check(folder):
-    differ = 0
-    for name, made in files():
-        with open(os.path.join(folder, name), encoding="ascii", errors="replace", newline="") as file:
-            there = file.read()
-        if there == made:
-            print(f"{name}: the same, {len(made)} characters")
-        else:
-            print(f"{name}: differs from line {first_difference(there, made)} on")
-            differ = 1
-    return differ
-
-
-def write(folder):
-    for name, made in files():
-        with open(os.path.join(folder, name), "w", encoding="ascii", newline="") as file:
-            file.write(made)
-        print(f"{name}: {len(made)} characters")
-    return 0
-
-
-def main(arguments):
-    if len(arguments) == 2 and arguments[0] == "--check":
-        return check(arguments[1])
-    if len(arguments) == 1 and not arguments[0].startswith("-"):
-        return write(arguments[0])
-    print(__doc__)
-    return 2
-
-
 if __name__ == "__main__":
-    sys.exit(main(sys.argv[1:]))
+    sys.exit(stored.main(files, __doc__, sys.argv[1:]))

@@ -15,9 +15,12 @@ from contextlib import redirect_stdout
 from unittest import mock
 
 import book
+import dip
+import dips
 import keyak
 import randoms
 import sessions
+import stored
 import table
 import wrongs
 from keyak import ByteStream, LAKE, LUNAR, OCEAN, RIVER, SEA
@@ -772,6 +775,56 @@ class Table(unittest.TestCase):
         return record
 
 
+class Readings(unittest.TestCase):
+    """The dip's readings by hand: bytes, limits, refusals in order, the index, and what is left."""
+
+    MONTH = [2000000, -2000000, -2147483648, -1, 66051]
+    BYTES = bytes.fromhex("80841e00 807be1ff 00000080 ffffffff 03020100")
+
+    def both(self, number, index, count, run, content):
+        """Both calls answer this; what is refused leaves all as it was, what is done changes the front alone."""
+        into, out = [9] * len(run), bytearray(b"o" * len(content))
+        for answer in (dip.read(count, content, into), dip.write(count, run, out)):
+            self.assertEqual(answer, (number, index))
+        done = number == 0
+        self.assertEqual(into, run[:count] + [9] * (len(run) - count) if done else [9] * len(run))
+        self.assertEqual(out, content if done else b"o" * len(content))
+
+    def test_month_by_hand(self):
+        self.both(0, 0, 5, self.MONTH, self.BYTES)
+        self.both(0, 0, 5, self.MONTH + [7, 2000001], self.BYTES)
+        self.both(0, 0, 0, [], b"")
+        self.both(0, 0, 0, [2000001], b"")
+        self.both(0, 0, 31, [-2147483648] * 31, bytes.fromhex("00000080") * 31)
+
+    def test_limits(self):
+        for number, content in ((2000001, "81841e00"), (-2000001, "7f7be1ff"), (2147483647, "ffffff7f"),
+                                (-2147483647, "01000080")):
+            for place in range(5):
+                run = self.MONTH[:place] + [number] + self.MONTH[place + 1:]
+                changed = self.BYTES[:4 * place] + bytes.fromhex(content) + self.BYTES[4 * place + 4:]
+                self.both(16, place, 5, run, changed)
+                self.both(0, 0, place, run, changed[:4 * place])
+
+    def test_first_of_several(self):
+        out = bytes.fromhex("ffffff7f")
+        self.both(16, 0, 31, [2147483647] * 31, out * 31)
+        for first in range(31):
+            for last in range(first, 31):
+                run = [-2147483648] * 31
+                run[first] = run[last] = 2147483647
+                content = b"".join(out if number > 0 else b"\0\0\0\x80" for number in run)
+                self.both(16, first, 31, run, content)
+
+    def test_refusals_in_order(self):
+        out = bytes.fromhex("81841e00")
+        for number, count, room, size in (
+                (6, 33, 32, 131), (6, 32, 31, 128), (6, 2, 1, 8), (6, 2, 1, 7), (6, 99999999999999, 31, 124),
+                (13, 32, 32, 127), (13, 32, 32, 128), (13, 40, 41, 160), (15, 31, 31, 123), (15, 31, 32, 125),
+                (15, 2, 2, 4), (15, 2, 3, 12), (15, 0, 0, 1), (15, 0, 1, 4)):
+            self.both(number, 0, count, [2000001] * room, (out * 41)[:size])
+
+
 # ---------------------------------------------------------------------------
 # The data file, read back by the rules in its head.
 # ---------------------------------------------------------------------------
@@ -904,11 +957,11 @@ class DataFile(unittest.TestCase):
                 mock.patch.object(sessions, "random_file", return_value=self.random), \
                 mock.patch.object(wrongs, "late_file", return_value="late"):
             with redirect_stdout(io.StringIO()):
-                sessions.write(folder)
+                stored.write(sessions.files(), folder)
                 with open(os.path.join(folder, "sessions.txt"), "w", encoding="ascii",
                           newline="") as file:
                     file.write(content)
-                return sessions.main(["--check", folder])
+                return stored.main(sessions.files, "", ["--check", folder])
 
     def test_replay(self):
         self.assertGreaterEqual(Replay(self).whole_file(self.text), 400)
@@ -1089,6 +1142,68 @@ class WrongWords(unittest.TestCase):
                          if line.startswith("end"))
         self.assertEqual([[a - b for a, b in zip(one, right, strict=True)] for one in wrong],
                          [[1, 0], [256, 0], [-1, 0], [0, 1], [0, 256], [0, -1]])
+
+
+class ReadingsFile(unittest.TestCase):
+    """readings.txt and wrong_readings.txt, read back."""
+
+    @classmethod
+    def setUpClass(cls):
+        cls.text, cls.wrong = (made.split("\n")[:-1] for _, made in dips.files())
+
+    def agrees(self, row):
+        """Whether the call of a line answers and leaves what the line tells."""
+        line = Line(row)
+        kind, count = line.take(), line.number()
+        given, lent = line.given(), line.given()
+        if kind == "read":
+            left = dip.numbers_of(lent)
+            answer = dip.read(count, given, left)
+            left = dip.bytes_of(left)
+        else:
+            left = bytearray(lent)
+            answer = dip.write(count, dip.numbers_of(given), left)
+        told = line.number(), line.number()
+        return told == answer and line.given() == left and line.words == []
+
+    def test_replay(self):
+        *calls, end = (row for row in self.text if not row.startswith("#"))
+        self.assertEqual(end, f"end {len(calls)}")
+        self.assertGreaterEqual(len(calls), 2000)
+        self.assertTrue(all(map(self.agrees, calls)))
+        self.assertLess(sum(map(len, self.text)), 300000)
+
+    def test_no_wrong_call_agrees(self):
+        with mock.patch.object(dips, "wrong_results", lambda line: [(0, line.split(" ")[0])]), \
+                mock.patch.object(dips, "wrong_places", lambda line: []):
+            right = list(dips.wrong_calls(dips.Months(book.Dice(dips.SEED))))
+        wrong = list(dips.wrong_calls(dips.Months(book.Dice(dips.SEED))))
+        self.assertTrue(all(map(self.agrees, right)))
+        self.assertFalse(any(map(self.agrees, wrong)))
+        for row in wrong:
+            self.assertTrue(any(sum(a != b for a, b in zip(row.split(" "), other.split(" "))) == 1
+                                for other in right))
+        self.assertLessEqual(set(wrong), set(self.wrong))
+
+    def test_wrong_indices(self):
+        """Too large and too small by one, 0 for another, and another than 0 beside each other number."""
+        told = {tuple(row.split(" ")[dips.NUMBER:dips.LEFT]) for row in self.wrong}
+        for one in ("16 4", "16 6", "16 0", "16 29", "16 31", "16 1", "0 1", "6 1", "13 1", "15 1"):
+            self.assertIn(tuple(one.split(" ")), told)
+
+    def test_wrong_file_tells_its_differences(self):
+        lines = [row for row in self.wrong if not row.startswith("#")]
+        calls = [row for row in lines if row.split(" ")[0] in dips.KINDS]
+        self.assertEqual(lines[-1], f"end {len(calls)}")
+        self.assertIn(f"must report {len(lines)} differences", self.wrong[1])
+
+    def test_missing_coverage_is_noticed(self):
+        kept = [family for family in dips.FAMILIES if family is not dips.one_bad]
+        with mock.patch.object(dips, "FAMILIES", kept), tempfile.TemporaryDirectory() as folder:
+            with self.assertRaises(AssertionError) as caught:
+                stored.main(dips.files, "", [folder])
+            self.assertEqual(os.listdir(folder), [])
+        self.assertIn("('write', 16, 28, 30)", str(caught.exception))
 
 
 if __name__ == "__main__":

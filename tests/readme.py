@@ -1,10 +1,13 @@
 """The README shows what there is: the sample year's output as the gate compares it, the example as it stands in crates/one_month, and the wrong
-line and the line of two names as year_cases prints them. python3 tests/readme.py leaves with 1 and says what differs."""
+lines, the line of two names and the month that cannot be read as year_cases prints them. python3 tests/readme.py leaves with 1 and says what differs."""
 import pathlib
 import re
 import sys
 
 BLOCKS = re.findall(r"^```\w*\n(.*?)^```$", pathlib.Path("README.md").read_text(), re.M | re.S)
+
+# how the blocks begin whose lines year_cases prints
+BEGINS = ("line ", "One borehole, ", "KW-4 2026-02: ")
 
 
 def text(path):
@@ -19,13 +22,13 @@ def main():
     }
     missing = [what for what, block in wanted.items() if block not in BLOCKS]
     told = text("crates/year_cases/stdout").splitlines()
-    for begins in ("line ", "One borehole, "):
+    for begins in BEGINS:
         shown = next((block for block in BLOCKS if block.startswith(begins)), f"no block that begins with '{begins}'\n")
         missing += [line for line in shown.splitlines() if line not in told]
     for what in missing:
         print(f"README.md does not show as it is: {what}")
     if not missing:
-        print(f"{len(wanted) + 2} blocks as they are")
+        print(f"{len(wanted) + len(BEGINS)} blocks as they are")
     return 1 if missing else 0
 
 

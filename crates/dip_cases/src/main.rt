@@ -17,8 +17,9 @@ fn main() {
     let g = header::lengths(f);
     let h = header::series(g);
     let i = readings::levels(h);
-    let j = readings::sizes(i);
-    let k = readings::lengths(j);
-    let l = readings::months(k);
-    tell(b"all", l);
+    let j = readings::places(i);
+    let k = readings::sizes(j);
+    let l = readings::lengths(k);
+    let m = readings::months(l);
+    tell(b"all", m);
 }

@@ -4,9 +4,6 @@ mod around;
 mod hand;
 mod steps;
 
-ghost use mathlib.Core.Path.{_≡_};
-ghost use Prim.Native.Nat.{_<_, _≤_};
-ghost use lib.ListN.{length};
 use bytes::scan::find;
 use decimal::LARGEST;
 use hand::Hand;
@@ -15,6 +12,9 @@ use std::num::wrapping_add_usize;
 use steps::Step;
 use trials::say;
 use vectors::compare::told;
+use vectors::file::load;
+use vectors::file::past;
+use vectors::file::room;
 use vectors::read::begun;
 use vectors::read::ends;
 use vectors::read::number;
@@ -90,14 +90,6 @@ fn turn(line: &[u8], r: Progress) -> Progress {
     }
 }
 
-// The place after the line from `at` to `end`: past the line's end, if the file does not end with it.
-fn past(at: usize, end: usize, most: usize) -> usize
-    requires { ⌜ (at < most) × (at ≤ end) × (end ≤ most) ⌝ }
-    ensures { λ r. ⌜ (at < r) × (r ≤ most) ⌝ }
-{
-    if end < most { end + 1 } else { end }
-}
-
 fn lines(file: &[u8]) -> Tallies {
     let hand = unstarted(false);
     let tallies = tallies::none();
@@ -146,19 +138,6 @@ fn opened_file(which: usize) -> i32 {
     }
 }
 
-// As much of the file as there is room for; 0 if it is not there.
-fn load(which: usize, file: &mut [u8]) -> usize
-    ensures { λ r. ⌜ r ≤ length (now (file .exit)) ⌝ }
-{
-    let fd = opened_file(which);
-    if fd < 0 {
-        return 0;
-    }
-    let n = io::read_full(fd, file);
-    libc::close(fd);
-    n
-}
-
 // The Keyak team's vectors, if a user supplied some.
 fn tell_team(size: usize, t: Tallies) {
     if size == 0 {
@@ -188,7 +167,7 @@ fn tell(which: usize, size: usize, t: Tallies) {
 }
 
 fn report(which: usize, file: &mut [u8]) {
-    let n = load(which, file);
+    let n = load(opened_file(which), file);
     let t = lines(&file[0..n]);
     tell(which, n, t);
 }
@@ -201,15 +180,8 @@ fn all(file: &mut [u8]) {
     }
 }
 
-// Room for a file.
-fn file_room() -> [u8; 2000000]
-    ensures { λ r. ⌜ 2000000 ≡ length r ⌝ }
-{
-    [0; 2000000]
-}
-
 fn main() {
-    let mut file = file_room();
+    let mut file = room();
     around::tell();
     all(&mut file);
 }

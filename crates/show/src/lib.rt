@@ -5,6 +5,7 @@ mod table_words;
 
 use libc::STDOUT_FILENO;
 pub use quotes::quoted;
+use std::num::wrapping_add_usize;
 pub use table_words::limit;
 pub use table_words::refused;
 pub use table_words::words;
@@ -28,6 +29,24 @@ fn spaces(to: i32, n: usize) -> bool {
 
 pub fn number(to: i32, n: usize) -> bool {
     io::print_decimal(to, n as u64)
+}
+
+// A number with its sign, by the 32 bits that say it.
+pub fn signed(to: i32, z: i32) -> bool {
+    let bits = dip_numbers::unsigned32(z) as usize;
+    if z < 0 {
+        return put(to, b"-") & number(to, 4_294_967_296 - bits);
+    }
+    number(to, bits)
+}
+
+// A reading by its index among so many: an index counts from 0, a person from 1.
+pub fn reading(to: i32, index: usize, count: usize) -> bool {
+    put(to, b"reading ")
+        & number(to, wrapping_add_usize(index, 1))
+        & put(to, b" of ")
+        & number(to, count)
+        & put(to, b", ")
 }
 
 // A number at the right of a column.

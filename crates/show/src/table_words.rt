@@ -1,13 +1,14 @@
 // The words of the numbers that start, wrap and unwrap give, with the limit of each. What a line of a file is refused for is told by
-// its word, where that is known.
+// its word, where that is known, and a reading out of range by its index.
 use crate::number as put_number;
 use crate::put;
 
-// What a key and a nonce may be.
+// What a key, a nonce and a reading may be.
 pub fn limit(to: i32, number: u8) -> bool {
     match number {
         table::KEY_LENGTH => put(to, b"a key has 16 to 32 bytes"),
         table::NONCE_LENGTH => put(to, b"a nonce has up to 1024 bytes"),
+        table::READING_RANGE => put(to, b"-2000000 to 2000000, or missing"),
         _ => put(to, b"no such limit"),
     }
 }

@@ -67,6 +67,16 @@ first-apart k (r ∷ rs) h p e = by (r .condition) (first-apart k rs h (p .1)) e
     by true rest = p .0
     by false rest = rest
 
+-- where the number that the last rule alone has is given, that rule holds and none before it does
+pub last-given : (k : ℕ) (rs : List Rule) (b : Bool) → 0 < k → Apart k rs → first (rs ++ (rule b k ∷ [])) ≡ k → None rs × (b ≡ true)
+last-given k [] true h p e = (tt, refl)
+last-given k [] false h p e = absurd (omega arith)
+last-given k (r ∷ rs) b h p e = by (r .condition) e (last-given k rs b h (p .1))
+  where
+    by : (c : Bool) → orElse c (r .number) (first (rs ++ (rule b k ∷ []))) ≡ k → (first (rs ++ (rule b k ∷ [])) ≡ k → None rs × (b ≡ true)) → ((c ≡ false) × None rs) × (b ≡ true)
+    by true g rest = absurd (p .0 g)
+    by false g rest = let w = rest g in ((refl, w .0), w .1)
+
 pub none-front : (rs qs : List Rule) → None (rs ++ qs) → None rs
 none-front [] qs h = tt
 none-front (r ∷ rs) qs h = (h .0, none-front rs qs (h .1))

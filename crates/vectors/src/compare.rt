@@ -68,8 +68,8 @@ fn equal_in(line: &[u8], seen: Seen, got: &[u8], spare: &mut [u8]) -> Seen {
     }
 }
 
-// The same, with room for more than the buffer has: little for a short one, which saves half the time of a call.
-fn equal(line: &[u8], seen: Seen, got: &[u8]) -> Seen {
+// Bytes that must be told, with room for more than the buffer has: little for a short one, which saves half the time of a call.
+pub fn equal(line: &[u8], seen: Seen, got: &[u8]) -> Seen {
     if got.len() < 256 {
         let mut spare = [0u8; 256];
         return equal_in(line, seen, got, &mut spare);

@@ -9,7 +9,8 @@ use trials::tally::tell;
 // The kind of a line that is no call, which only differs.
 pub const NO_CALL: usize = 8;
 
-// The other kinds: 0 to 3 are start, wrap, unwrap and permute of Lake, 4 to 7 the same of River.
+// The other kinds: 0 to 3 are start, wrap, unwrap and permute of Lake, 4 to 7 the same of River. In a file of readings,
+// 0 is read and 1 is write.
 // `first` is the line of the first difference, 0 if there is none.
 pub struct Tallies {
     pub kinds: [Tally; 9],
@@ -107,16 +108,21 @@ pub fn table(t: Tallies) {
     tell(b"  permutation of 32-bit lanes", k[7]);
 }
 
-// The line of a file: what it is, and how it came out.
-pub fn total(what: &[u8], t: Tallies) {
+// How the calls of a file came out, and which line differed first. With that the line ends.
+pub fn outcome(t: Tallies) {
     let kinds = t.kinds;
-    say::text(what);
-    say::number(t.sessions);
-    say::text(b" sessions, ");
     tally::outcome(b" calls", sum(compared(kinds), kinds[NO_CALL]));
     if t.first != 0 {
         say::text(b", the first in line ");
         say::number(t.first);
     }
     say::text(b"\n");
+}
+
+// The line of a file of sessions: what it is, and how it came out.
+pub fn total(what: &[u8], t: Tallies) {
+    say::text(what);
+    say::number(t.sessions);
+    say::text(b" sessions, ");
+    outcome(t);
 }

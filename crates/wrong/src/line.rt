@@ -35,7 +35,7 @@ fn end_beside(errors: i32, line: &[u8], other: Header, words: &[u8]) {
     finish(errors, words, has_hash(line) | has_hash(&name));
 }
 
-// What a word is, by its place; a reading is counted from 1 among those of the line.
+// What a word is, by its place; a reading among those of the line.
 fn called(errors: i32, line: &[u8], word: usize) -> bool {
     match word {
         0 => show::put(errors, b"well "),
@@ -49,11 +49,8 @@ fn called(errors: i32, line: &[u8], word: usize) -> bool {
 
 fn reading(errors: i32, line: &[u8], word: usize) -> bool {
     let found = line_text::words(line);
-    show::put(errors, b"reading ");
-    show::number(errors, word - slices::least(word, 4));
-    show::put(errors, b" of ");
-    show::number(errors, found - slices::least(found, 5));
-    show::put(errors, b", ")
+    let count = found - slices::least(found, 5);
+    show::reading(errors, word - slices::least(word, 5), count)
 }
 
 // The limits of a word, by its place.

@@ -1,19 +1,24 @@
 // The main job: one borehole's year of dips, read from a plain text file, sealed month by month with Lake or River, opened again on a
 // second session and shown; then what must be refused. Arguments: lake or river, the file of dips, the key file, the nonce file.
-// The table goes to standard output; what is wrong goes to one other place, standard error, and ends in "Nothing was sealed."
-// The program year is this job on the sample year; year_cases shows what stops it before it seals, and what it takes.
+// The table goes to standard output; what is wrong goes to one other place, standard error. What stops the job ends in "Nothing was sealed."
+// The program year is this job on the sample year; year_cases shows what stops it before it seals, what it takes, and months that were opened
+// and cannot be read.
 ghost use Prim.Native.Nat.{_≤_};
+ghost use mathlib.Core.Path.{_≡_};
 ghost use lib.ListN.{length};
+ghost use Rattle.packets.specs.Packet.{yearBytes};
 
 mod attacks;
 mod files;
+mod opened;
 mod rows;
 mod sealing;
 mod secrets;
 
-use channel::Instance;
+pub use channel::Instance;
 use files::Loaded;
 use libc::STDERR_FILENO;
+use year_text::Found;
 
 // The files as they were read.
 fn run_read(
@@ -67,6 +72,20 @@ pub fn run_on(errors: i32, word: &[u8], dips_path: &[u8], key_path: &[u8], nonce
         return run_with(errors, Instance::River, dips_path, key_path, nonce_path);
     }
     wrong::file::no_instance(errors, word);
+}
+
+// The job on plain packets, whose headers stand and whose readings may be any bytes, as a program that does not check them might seal.
+pub fn run_packets(
+    errors: i32,
+    instance: Instance,
+    key: &[u8],
+    nonce: &[u8],
+    plain: &[u8],
+    found: Found,
+)
+    requires { ⌜ (length (now plain) ≡ yearBytes) × (found .months ≤ 12) ⌝ }
+{
+    sealing::send(errors, instance, key, nonce, plain, found);
 }
 
 // An argument into a buffer; whether it fits.

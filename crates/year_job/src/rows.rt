@@ -1,7 +1,4 @@
 // The table that a person reads: its head, a row a month, its foot. Serves the main job.
-ghost use mathlib.Core.Path.{_≡_};
-ghost use lib.ListN.{length};
-ghost use Rattle.packets.specs.Packet.{packetBytes};
 use channel::Instance;
 use dip::Header;
 use show::TABLE;
@@ -48,43 +45,12 @@ fn columns(header: Header, gone: usize) -> bool {
         & show::number_in(TABLE, gone, 9)
 }
 
-// How many readings of a month are missing; `ok` where they can be read.
-struct Gone {
-    ok: bool,
-    number: usize,
-}
-
-fn count_gone(count: usize, readings: &[u8]) -> Gone {
-    let mut levels = [0i32; 31];
-    let answer = dip::read_readings(count, readings, &mut levels);
-    Gone {
-        ok: answer.number == table::DONE,
-        number: missing(&levels),
-    }
-}
-
-// What became of a row: whether the month could be read, and whether it was written.
-pub struct Row {
-    pub read: bool,
-    pub written: bool,
-}
-
-// What an opened month says: the header in its packet, and its readings.
-pub fn month(packet: &[u8], readings: &[u8], runs: usize) -> Row
-    requires { ⌜ length (now packet) ≡ packetBytes ⌝ }
-{
-    let found = dip::read_header(&packet[0..packets::HEADER]);
-    let header = found.header;
-    let absent = count_gone(header.count as usize, readings);
-    let first = columns(header, absent.number);
-    let second = show::number_in(TABLE, readings.len(), 7)
-        & show::number_in(TABLE, runs, 6)
-        & put(TABLE, b"  ");
-    let third = show::hex(TABLE, packets::tag(packet)) & put(TABLE, b"\n");
-    Row {
-        read: absent.ok & (found.number == table::DONE),
-        written: first & second & third,
-    }
+// The row of a month: its readings have so many bytes, and took so many runs. No number behind those of a month counts as missing.
+pub fn month(header: Header, levels: &[i32], bytes: usize, runs: usize, tag: &[u8]) -> bool {
+    let first = columns(header, missing(levels));
+    let second = show::number_in(TABLE, bytes, 7) & show::number_in(TABLE, runs, 6);
+    let third = put(TABLE, b"  ") & show::hex(TABLE, tag) & put(TABLE, b"\n");
+    first & second & third
 }
 
 // What of the file is in the table and what is not.
@@ -99,10 +65,13 @@ fn lines(found: Found) -> bool {
 
 // The last line says how it came out: the program has no other way to tell. It is the good one only if all before it was `written`;
 // answers whether all was.
-pub fn foot(found: Found, same: bool, refused: bool, written: bool) -> bool {
+pub fn foot(found: Found, same: bool, read: bool, refused: bool, written: bool) -> bool {
     let all = written & lines(found);
     if !same {
         return put(TABLE, b"Not every reading came out as it was sealed.\n") & all;
+    }
+    if !read {
+        return put(TABLE, b"Not every month could be read.\n") & all;
     }
     if !refused {
         return put(TABLE, b"A tampered month was not refused.\n") & all;

@@ -4,6 +4,7 @@ ghost use mathlib.Core.Path.{_≡_};
 ghost use lib.ListN.{length};
 ghost use Rattle.packets.specs.Packet.{packetBytes, yearBytes};
 use crate::attacks;
+use crate::opened;
 use crate::rows;
 use channel::Channel;
 use channel::Instance;
@@ -32,21 +33,31 @@ fn seal_all(channel: Channel, plain: &[u8], months: usize, sealed: &mut [u8]) ->
     number
 }
 
-// What opening a month gives: the session for the next, whether the readings are those that were sealed, and whether its row was written.
+// What opening a month gives: the session for the next, whether it could be read, whether the readings are those that were sealed, and
+// whether its row was written.
 struct Opened {
     channel: Channel,
+    read: bool,
     same: bool,
     written: bool,
 }
 
 // A month that was opened: its row, and whether its readings can be read and are those of the plain packet.
-fn shown(channel: Channel, sealed: &[u8], readings: &[u8], plain: &[u8], runs: usize) -> Opened
+fn shown(
+    errors: i32,
+    channel: Channel,
+    sealed: &[u8],
+    readings: &[u8],
+    plain: &[u8],
+    runs: usize,
+) -> Opened
     requires { ⌜ (length (now sealed) ≡ packetBytes) × (length (now plain) ≡ packetBytes) ⌝ }
 {
-    let row = rows::month(sealed, readings, runs);
+    let row = opened::month(errors, sealed, readings, runs);
     Opened {
         channel,
-        same: row.read & slices::same(readings, packets::text(plain)),
+        read: row.read,
+        same: slices::same(readings, packets::text(plain)),
         written: row.written,
     }
 }
@@ -63,11 +74,12 @@ fn open_month(errors: i32, channel: Channel, sealed: &[u8], plain: &[u8]) -> Ope
         wrong::file::unopened(errors, answer.number);
         return Opened {
             channel: next,
+            read: false,
             same: false,
             written: true,
         };
     }
-    shown(next, sealed, &out[0..n], plain, answer.runs)
+    shown(errors, next, sealed, &out[0..n], plain, answer.runs)
 }
 
 // All months, one after the other; what holds of each is held of all.
@@ -75,6 +87,7 @@ fn open_all(errors: i32, channel: Channel, sealed: &[u8], plain: &[u8], months: 
     requires { ⌜ (length (now sealed) ≡ yearBytes) × (length (now plain) ≡ yearBytes) × (months ≤ 12) ⌝ }
 {
     let mut session = channel;
+    let mut read = true;
     let mut same = true;
     let mut written = true;
     let mut i = 0;
@@ -87,12 +100,14 @@ fn open_all(errors: i32, channel: Channel, sealed: &[u8], plain: &[u8], months: 
         );
         let next = opened.channel;
         session = next;
+        read = read & opened.read;
         same = same & opened.same;
         written = written & opened.written;
         i += 1;
     }
     Opened {
         channel: session,
+        read,
         same,
         written,
     }
@@ -106,7 +121,7 @@ fn open_year(errors: i32, second: Channel, sealed: &[u8], plain: &[u8], found: F
     let named = year_text::names::tell(TABLE, plain, found.months);
     let tries = attacks::try_all(second, sealed, found.months);
     let written = begun & opened.written & named & tries.written;
-    if !rows::foot(found, opened.same, tries.refused, written) {
+    if !rows::foot(found, opened.same, opened.read, tries.refused, written) {
         wrong::file::unwritten(errors);
     }
 }
@@ -134,7 +149,7 @@ fn receive(
 }
 
 // The months sealed on the first session.
-fn send(errors: i32, instance: Instance, key: &[u8], nonce: &[u8], plain: &[u8], found: Found)
+pub fn send(errors: i32, instance: Instance, key: &[u8], nonce: &[u8], plain: &[u8], found: Found)
     requires { ⌜ (length (now plain) ≡ yearBytes) × (found .months ≤ 12) ⌝ }
 {
     let mut tag = [0u8; table::TAG_BYTES];

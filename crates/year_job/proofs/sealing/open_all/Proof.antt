@@ -5,10 +5,10 @@ use Rattle.year_job.proofs.sealing.open_all.Statement.{statement}
 use Rattle.year_job.proofs.sealing.open_all.Tie as tie
 
 abbrev Inv-loop : tie.InvT-loop
-Inv-loop errors sealed plain months session₀ same₀ written₀ i₀ session same written i = i ≤ months
+Inv-loop errors sealed plain months session₀ read₀ same₀ written₀ i₀ session read same written i = i ≤ months
 
 abbrev μ-loop : tie.MeasureT-loop
-μ-loop errors sealed plain months session₀ same₀ written₀ i₀ session same written i = months - i
+μ-loop errors sealed plain months session₀ read₀ same₀ written₀ i₀ session read same written i = months - i
 
 loop-holds : tie.Need-loop-holds Inv-loop μ-loop
 loop-holds c = search needs
@@ -23,7 +23,10 @@ open-month-requires : tie.Need-open-month-requires Inv-loop μ-loop
 open-month-requires c κs = search needs
 
 add-i : tie.Need-add-i Inv-loop μ-loop
-add-i c = search needs
+add-i c =
+    let taken = c .before .before .before .before .before .before .before .loop-test .taken in
+    let fits = c .before .before .before .before .before .before .before .before .before .before .before .fits .months in
+    search needs
 
 loop-less : tie.Need-loop-less Inv-loop μ-loop
 loop-less c = search needs

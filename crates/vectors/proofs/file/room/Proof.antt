@@ -3,8 +3,8 @@ use mathlib.Core.Path.{_≡_, sym, refl}
 use mathlib.Core.List.{List}
 use Prim.Native.Nat.{ℕ}
 use lib.ListN.{length, replicate, length-replicate}
-use Rattle.sessions.proofs.file_room.Statement.{statement}
-use Rattle.sessions.proofs.file_room.Tie as tie
+use Rattle.vectors.proofs.file.room.Statement.{statement}
+use Rattle.vectors.proofs.file.room.Tie as tie
 
 long : (n : ℕ) (l : List ℕ) → l ≡ replicate n 0 → n ≡ length l
 long n l e = rw e (sym (length-replicate n 0))
@@ -12,8 +12,8 @@ long n l e = rw e (sym (length-replicate n 0))
 returns : tie.Need-returns
 returns c = long 2000000 _ refl
 
-pub file-room-spec : {M : Type 1} → statement M
-file-room-spec =
+pub room-spec : {M : Type 1} → statement M
+room-spec =
     tie.close
     (tie.spec
     returns)

@@ -15,7 +15,7 @@ pub fn reading(errors: i32, header: Header, index: usize, value: i32) {
     show::put(errors, b"\n");
 }
 
-// Anything else, which no month that a line began with has: the number alone, since a header that is refused names no month.
+// Any other refusal, which a month that was read from a line cannot have: the number alone, since a header that is refused names no month.
 pub fn refused(errors: i32, number: u8) {
     show::put(
         errors,

@@ -1,5 +1,5 @@
-// Months with readings that no month has. The text's reader refuses such a line, but the cipher does not look at readings: another program
-// may seal them, so here they are put into the packets, sealed, opened, and then told.
+// Months with readings that no month has. The text's reader refuses such a line, but the cipher does not look at readings: a program that
+// does not check them could seal some, so here they are put into the packets, sealed, opened, and then told.
 ghost use mathlib.Core.Path.{_≡_};
 ghost use lib.ListN.{length};
 ghost use Rattle.packets.specs.Packet.{yearBytes};

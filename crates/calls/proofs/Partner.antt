@@ -149,6 +149,8 @@ module _ {b w k : ℕ} (ok : Sound (solo b w k)) (f : Bytes → Bytes) (long : L
   chain_joined : (x y : R) (cs ps : List Call) → y ≡ x → AllDone (outcomes K one f x cs) → Beside K one f (Joined K one f) x cs y ps
       → AllDone (outcomes K one f y ps) × Beside K one f (Agree K one f) x cs y ps
   chain_joined x y [] [] e h u = (tt, tt)
+  chain_joined x y [] (p ∷ ps) e h u = elim u [ ]
+  chain_joined x y (c ∷ cs) [] e h u = elim u [ ]
   chain_joined x y (c ∷ cs) (p ∷ ps) e h u =
       let a : Agree K one f x c y p = subst (λ (s : R). Agree K one f x c s p) (sym e) (joins_agree x c h.0 p u.0) in
       let ih = chain_joined (call_of K one f x c).session (call_of K one f y p).session cs ps a.session h.1 u.1 in
@@ -172,6 +174,8 @@ module _ {b w k : ℕ} (ok : Sound (solo b w k)) (f : Bytes → Bytes) (long : L
   chain_spoken : (x y : R) (cs ps : List Call) → y ≡ x → Beside K one f (Talks K one f) x cs y ps
       → AllDone (outcomes K one f x cs) × AllDone (outcomes K one f y ps) × Beside K one f (Heard K one f) x cs y ps
   chain_spoken x y [] [] e u = (tt, tt, tt)
+  chain_spoken x y [] (p ∷ ps) e u = elim u [ ]
+  chain_spoken x y (c ∷ cs) [] e u = elim u [ ]
   chain_spoken x y (c ∷ cs) (p ∷ ps) e u =
       let s = spoken x y c p e u.0 in
       let ih = chain_spoken (call_of K one f x c).session (call_of K one f y p).session cs ps s.session u.1 in

@@ -33,7 +33,7 @@ none_differs (o ∷ os) h = (λ e. omega (arith, h.0, e), none_differs os h.1)
 module _ {R : Type 0} (K : Records R) (i : Instance) (f : Bytes → Bytes) where
   differs_front : (x : R) (front back : List Call) → NoneDiffers (outcomes K i f x (front ++ back)) → NoneDiffers (outcomes K i f x front)
   differs_front x [] back h = tt
-  differs_front x (c ∷ front) back h = (h.0, differs_front _ front back h.1)
+  differs_front x (c ∷ front) back h = (h.0, differs_front (call_of K i f x c).session front back h.1)
 
   pub unbroken_front : (a : StartCall) (front back : List Call) → Unbroken K i f a (front ++ back) → Unbroken K i f a front
   unbroken_front a front back h = record { start = h.start; calls = differs_front (begins K i f a) front back h.calls }

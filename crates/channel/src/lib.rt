@@ -1,4 +1,5 @@
 // Packets sealed and opened with Lake or River. Serves the main job.
+#![tactic(auto)]
 mod either;
 mod sealed;
 

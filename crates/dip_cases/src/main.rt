@@ -1,5 +1,6 @@
 // Tries the dip's calls on both sides of every limit and prints what each answered, a line for each group of cases.
 // What is expected stands in the cases as numbers and bytes of their own: nothing of the library makes it.
+#![tactic(auto)]
 mod group;
 mod header;
 mod readings;

@@ -1,10 +1,11 @@
 // Runs the second program's readings of months (docs/VECTORS.md) through the public calls that read and write them, and says how
 // many calls agreed in everything that the file tells, and how many differed.
+#![tactic(auto)]
 mod around;
 mod calls;
 mod run;
 
-use bytes::scan::find;
+use scan::find;
 use trials::say;
 use vectors::compare::told;
 use vectors::file::{load, past, room};

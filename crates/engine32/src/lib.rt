@@ -1,5 +1,6 @@
 // The Engine and the Motorist on 25 lanes of 32 bits, for one Piston: a group of blocks, a knot, a whole message and a whole start.
 // Serves River's calls, which know the session; here are lanes, a place where text starts and slices. No public call.
+#![tactic(auto)]
 ghost use Rattle.std.specs.Prelude.{◌≡◌, [], ◌∷◌, ◌+◌, ◌%◌, ◌≤◌, ◌<◌, length, take, drop};
 ghost use Rattle.lanes32.specs.State.{state_of};
 ghost use Rattle.motorist.specs.Instance.{river, text_rate, full_rate, pack_length, chain_length};
@@ -15,7 +16,7 @@ use lanes32::Lanes;
 use rates::{ByteCount, Rates};
 
 // The lanes after some blocks, and how many they were.
-#[derive(Drop)]
+#[derive(Clone, Copy)]
 pub struct Ran {
     pub lanes: Lanes,
     pub runs: usize,

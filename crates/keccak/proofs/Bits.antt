@@ -27,9 +27,9 @@ unfolding bit
 bit_shr n j z = rw shr-shr
 
 -- ---- xor, and, not
-pub bit_xor : (a b z : ℕ) → bit (bit_xor a b) z ≡ (bit a z + bit b z) % 2
+pub bit-bit_xor : (a b z : ℕ) → bit (bit_xor a b) z ≡ (bit a z + bit b z) % 2
 unfolding bit
-bit_xor a b z = rw xor_shr (omega (arith, xor_add_and (a / 2 ^ z) (b / 2 ^ z)))
+bit-bit_xor a b z = rw xor_shr (omega (arith, xor_add_and (a / 2 ^ z) (b / 2 ^ z)))
 
 and_small : (p q : ℕ) → p < 2 → q < 2 → bit_and p q ≡ p * q
 and_small zero q h k = omega arith
@@ -38,9 +38,9 @@ and_small (suc zero) (suc zero) h k = refl
 and_small (suc zero) (suc (suc q)) h k = absurd (omega arith)
 and_small (suc (suc p)) q h k = absurd (omega arith)
 
-pub bit_and : (a b z : ℕ) → bit (bit_and a b) z ≡ bit a z * bit b z
+pub bit-bit_and : (a b z : ℕ) → bit (bit_and a b) z ≡ bit a z * bit b z
 unfolding bit
-bit_and a b z = rw (and_shr, and_mod (a / 2 ^ z) (b / 2 ^ z) 1) (and_small _ _ (mod-lt _ (omega arith)) (mod-lt _ (omega arith)))
+bit-bit_and a b z = rw (and_shr, and_mod (a / 2 ^ z) (b / 2 ^ z) 1) (and_small _ _ (mod-lt _ (omega arith)) (mod-lt _ (omega arith)))
 
 -- two numbers that add up to w ones
 ones_bits : (w a b z : ℕ) → a + b + 1 ≡ 2 ^ w → z < w → bit a z + bit b z ≡ 1

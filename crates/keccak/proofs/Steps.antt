@@ -14,7 +14,7 @@ use Rattle.keccak.specs.Keccak.{State, sum, back, when, offset, theta, rho, pi, 
 use Rattle.keccak.specs.Bits.{bit, rot}
 use Rattle.keccak.specs.Tables.{offsets}
 use Rattle.keccak.specs.Lanes.{lane, parity, theta_lane, rho_pi_lane, chi_lane, theta_l, rho_pi_l, chi_l, iota_l, constant}
-use Rattle.keccak.proofs.Bits.{bit_lt, bit_xor, bit_and, bit_not, bit-rot, rot_lt}
+use Rattle.keccak.proofs.Bits.{bit_lt, bit-bit_xor, bit-bit_and, bit_not, bit-rot, rot_lt}
 use Rattle.keccak.proofs.Lanes.{Holds, holds_lanes}
 use Rattle.keccak.proofs.Tables.{offsets_right, constant_lt, constant-bit}
 
@@ -43,7 +43,7 @@ module _ (w : ℕ) (s : List ℕ) (a : State) (h : Holds w s a) where
   parity-bit : (x z : ℕ) → x < 5 → z < w → bit (parity s x) z ≡ sum 5 (λ y. a x y z) % 2
   parity-bit x z hx hz =
       let g : (y : ℕ) → y < 5 → bit (lane s x y) z ≡ a x y z = λ y hy. h.agree x y z hx hy hz in
-      rw (bit_xor, bit_xor, bit_xor, bit_xor, g 0 (omega arith), g 1 (omega arith), g 2 (omega arith), g 3 (omega arith), g 4 (omega arith)) (omega arith)
+      rw (bit-bit_xor, bit-bit_xor, bit-bit_xor, bit-bit_xor, g 0 (omega arith), g 1 (omega arith), g 2 (omega arith), g 3 (omega arith), g 4 (omega arith)) (omega arith)
 
   pub theta_holds : Holds w (theta_l w s) (theta w a)
   unfolding theta
@@ -52,8 +52,8 @@ module _ (w : ℕ) (s : List ℕ) (a : State) (h : Holds w s a) where
       (λ x y hx hy. xor_lt w _ _ (h.small x y hx hy) (xor_lt w _ _ (parity_lt _ (five (x + 4))) (rot_lt w (1 % w) _ (parity_lt _ (five (x + 1))))))
       (λ x y z hx hy hz.
       rw (
-        bit_xor,
-        bit_xor,
+        bit-bit_xor,
+        bit-bit_xor,
         bit_back w 1 _ z (parity_lt _ (five (x + 1))) hz,
         parity-bit _ z (five (x + 4)) hz,
         parity-bit _ (back w z 1) (five (x + 1)) (back_lt w z 1 hz),
@@ -79,8 +79,8 @@ module _ (w : ℕ) (s : List ℕ) (a : State) (h : Holds w s a) where
       (λ x y z hx hy hz.
       let q : bit (lane s ((x + 1) % 5) y) z < 2 = bit_lt _ z in
       rw (
-        bit_xor,
-        bit_and,
+        bit-bit_xor,
+        bit-bit_and,
         bit_not w _ z (h.small _ y (five (x + 1)) hy) hz,
         not_times _ _ (bit (lane s ((x + 2) % 5) y) z) q,
         h.agree x y z hx hy hz,
@@ -106,7 +106,7 @@ module _ (l r : ℕ) (s : List ℕ) (a : State) (h : Holds (2 ^ l) s a) where
 
   iota_agree : (x y z : ℕ) → x < 5 → y < 5 → z < 2 ^ l → bit (lane (iota_l (constant l r) s) x y) z ≡ iota l r a x y z
   unfolding iota
-  iota_agree zero zero z hx hy hz = rw (first, bit_xor, constant-bit l r z hz, h.agree 0 0 z hx hy hz) refl
+  iota_agree zero zero z hx hy hz = rw (first, bit-bit_xor, constant-bit l r z hz, h.agree 0 0 z hx hy hz) refl
   iota_agree zero (suc y) z hx hy hz =
       same 0 (suc y) z _ hx hy hz (λ e. omega arith) (ap (λ (b : Bool). when (eqb 0 0 && b) (constant_bit l r z)) (eqb-suc-zero y))
   iota_agree (suc x) y z hx hy hz =

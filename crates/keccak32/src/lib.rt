@@ -1,4 +1,5 @@
 // KECCAK-p[800, n] on 25 lanes of 32 bits. `permute` is the public call; `permute12` serves the crates above.
+#![tactic(auto)]
 ghost use Rattle.std.specs.Prelude.{◌≡◌, ◌%◌, ◌^◌, ◌≤◌};
 ghost use Rattle.keccak.specs.Lanes.{rounds_l};
 ghost use Rattle.keccak.specs.State.{bytes, keccak_bytes};
@@ -8,7 +9,7 @@ use keccak::round_constants;
 use steps32::round;
 
 // What the call answers: the rounds done, and the lanes.
-#[derive(Drop)]
+#[derive(Clone, Copy)]
 pub struct Permuted {
     pub rounds: usize,
     pub lanes: [u32; 25],

@@ -4,7 +4,7 @@ ghost use Rattle.std.specs.Prelude.{◌≡◌, ◌≤◌, get_or};
 
 use crate::{line_words, places};
 
-#[derive(Drop)]
+#[derive(Clone, Copy)]
 pub enum Kind {
     Blank,
     Comment,

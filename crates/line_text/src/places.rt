@@ -2,7 +2,7 @@
 ghost use Rattle.std.specs.Prelude.{◌≡◌, false, ◌≤◌, length};
 ghost use Rattle.line_text.specs.Bounds.{Within};
 
-#[derive(Drop)]
+#[derive(Clone, Copy)]
 pub enum Place {
     WordStart,
     WordEnd,

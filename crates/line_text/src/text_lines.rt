@@ -23,7 +23,7 @@ fn past_line(text: &[u8], from: usize) -> usize
     requires { from ≤ length text.now }
     ensures { result ≤ length text.now }
 {
-    let end = bytes::scan::find(text, from, text.len(), b'\n');
+    let end = scan::find(text, from, text.len(), b'\n');
     if end < text.len() { end + 1 } else { end }
 }
 
@@ -35,6 +35,6 @@ pub fn line(text: &[u8], number: usize) -> &[u8] {
         start = past_line(text, start);
         left -= 1;
     }
-    let end = bytes::scan::find(text, start, text.len(), b'\n');
+    let end = scan::find(text, start, text.len(), b'\n');
     &text[start..end]
 }

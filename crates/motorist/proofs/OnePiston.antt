@@ -98,10 +98,10 @@ module _ (b w c : ℕ) (f : Bytes → Bytes) where
         rw (group_more decrypt s 0 [] m e (omega (arith, ok.tag_fits)) (inr (omega arith)), k, take-nil, drop-nil, plain_nil)
 
     -- metadata injected collectively is metadata alone
-    injected_group : (decrypt : Bool) (s : Bytes) {e : ℕ} {m : Bytes} {bs : List Blocks} → Injected one (e ∷ []) m [] bs
+    injected_group : (decrypt : Bool) {e : ℕ} (s : Bytes) {m : Bytes} {bs : List Blocks} → Injected one (e ∷ []) m [] bs
         → record { output = []; blocks = bs; states = run one f (s ∷ []) bs } ≡ group one f decrypt (s ∷ []) 0 [] m (e ∷ [])
-    injected_group decrypt s {e} (final {m = m} h) = sym (meta_last decrypt s m e h)
-    injected_group decrypt s {e} (further {m = m} h ps) = rw (meta_more decrypt s m e h, ← injected_group decrypt (absorb f s (block one 0 [] 0 (take (full_rate one) m) 0)) ps)
+    injected_group decrypt {e} s (final {m = m} h) = sym (meta_last decrypt s m e h)
+    injected_group decrypt {e} s (further {m = m} h ps) = rw (meta_more decrypt s m e h, ← injected_group decrypt (absorb f s (block one 0 [] 0 (take (full_rate one) m) 0)) ps)
 
     pub inject-group : (decrypt : Bool) (s m : Bytes) (e : ℕ) → inject one f (s ∷ []) (m ∷ []) (e ∷ []) ≡ group one f decrypt (s ∷ []) 0 [] m (e ∷ [])
     inject-group decrypt s m e = injected_group decrypt s (injected one ok (e ∷ []) m [])

@@ -68,7 +68,7 @@ module _ (i : Instance) (ok : Sound i) where
   onward p rest = p.1 ++ read i p.0 rest
 
   -- ---- a group, with the text t₀ and the metadata m₀ read before it
-  ride-read : (f : Bytes → Bytes) {e at n k : ℕ} {es : List ℕ} {rs : List Round} → Planned i (e ∷ es) at n k rs
+  ride-read : (f : Bytes → Bytes) {e : ℕ} {es : List ℕ} {at n k : ℕ} {rs : List Round} → Planned i (e ∷ es) at n k rs
       → (ss : States) (t m t₀ m₀ : Bytes) (rest : List Blocks) → length t ≡ n → length m ≡ k
       → read i (inside at t₀ m₀) ((ride i f false rs ss t m).blocks ++ rest) ≡ onward (turn (inside 0 (t₀ ++ t) (m₀ ++ m)) (t₀ ++ t) (m₀ ++ m) false (eom_says i e)) rest
   ride-read f {e} {es = es} (last {at = at} {t = n} {m = k} h p q) ss t m t₀ m₀ rest ht hm =

@@ -1,7 +1,7 @@
 -- The shape of every block of a session: b/8 bytes below 256, text never beyond the text rate, metadata never beyond the full rate,
 -- the offset bytes as 01 lists them, and zeros elsewhere; for a permutation that keeps states, and inputs of bytes.
 use Prim.Native.Nat.{ℕ, zero, suc, ◌+◌, ◌-◌, ◌^◌, ◌≤◌, ◌<◌, min}
-use mathlib.Core.Path.{◌≡◌, refl, sym, ap, ◌∙◌}
+use mathlib.Core.Path.{◌≡◌, refl, sym, ap, ◌∙◌, subst}
 use mathlib.Core.Bool.{Bool, true, false}
 use mathlib.Core.Logic.{inl, inr}
 use mathlib.Core.List.{List, [], ◌∷◌, ◌++◌, map}
@@ -99,7 +99,8 @@ module _ (i : Instance) (ok : Sound i) where
       let x : Bytes = plain decrypt (first_piston ss) at (take a text) in
       let d = deal_fit i ok decrypt (first_piston ss) from at t m text meta ha (inject_le i ok t) (behind i t) ht hm in
       let c : crypt_end_of i (block i at x from (take b meta) e) ≡ crypt_end at a = crypt_end_back i ok at x from (take b meta) e d.fit ∙ rw d.text in
-      rw (c, same_start at t ha) (deal_shaped decrypt from at t m (e ∷ es) ss text meta ha (inject_le i ok t) (behind i t) ht hm st sm he hs)
+      subst (λ (k : ℕ). Each (Shaped i k) (fill i decrypt (round i at t m (e ∷ es)) ss text meta)) (sym (ap (inject_start i) c ∙ same_start at t ha))
+      (deal_shaped decrypt from at t m (e ∷ es) ss text meta ha (inject_le i ok t) (behind i t) ht hm st sm he hs)
 
   goes_eoms : (es : List ℕ) → Each (Eom i) (goes_on es)
   goes_eoms [] = tt
@@ -128,7 +129,9 @@ module _ (i : Instance) (ok : Sound i) where
       (block_shaped 0 [] 0 m e (alone_fits i (length m) (rw hm.0.0 h)) small_nil hm.0.1 he.0, each_shaped l ms es h hm.1 he.1)
 
   each-round : (l : ℕ) (m : Bytes) (ms : List Bytes) (e : ℕ) (es : List ℕ) → l ≤ full_rate i → Alike l (m ∷ ms) → Each (Eom i) (e ∷ es) → ShapedRound i (each i (m ∷ ms) (e ∷ es))
-  each-round l m ms e es h hm he = rw (crypt_end_back i ok 0 [] 0 m e (alone_fits i (length m) (rw hm.0.0 h))) (each_shaped l (m ∷ ms) (e ∷ es) h hm he)
+  each-round l m ms e es h hm he =
+      subst (λ (k : ℕ). Each (Shaped i k) (each i (m ∷ ms) (e ∷ es)))
+      (sym (ap (inject_start i) (crypt_end_back i ok 0 [] 0 m e (alone_fits i (length m) (rw hm.0.0 h))))) (each_shaped l (m ∷ ms) (e ∷ es) h hm he)
 
   length-each : (ms : List Bytes) (es : List ℕ) → length ms ≡ length es → length (each i ms es) ≡ length es
   length-each [] es h = h
@@ -194,7 +197,7 @@ module _ (i : Instance) (ok : Sound i) where
         let w = next (absorbs_states _ ss bs (omega arith) hs hb) (absorbs-length ss bs ∙ lb) in
         record { blocks = (hb, w.blocks); states = w.states; many = w.many }
 
-    ride_well : (decrypt : Bool) {e at t m : ℕ} {es : List ℕ} {rs : List Round} → Planned i (e ∷ es) at t m rs → (ss : States) (text meta : Bytes)
+    ride_well : (decrypt : Bool) {e : ℕ} {es : List ℕ} {at t m : ℕ} {rs : List Round} → Planned i (e ∷ es) at t m rs → (ss : States) (text meta : Bytes)
         → length text ≡ t → length meta ≡ m → Small text → Small meta → Each (Eom i) (e ∷ es) → Each (State i) ss → length ss ≡ suc (length es)
         → (let x : Ride = ride i f decrypt rs ss text meta in Well i (suc (length es)) x.blocks x.states)
     ride_well decrypt {e} {es = es} (last {at = at} {t = t} {m = m} h p q) ss text meta ht hm st sm he hs ls =

@@ -49,7 +49,7 @@ module _ (i : Instance) where
           knot-read i ok f (inside at [] []) (inside 0 g.text g.meta) (group i f false ss at g.text g.meta) g.text g.meta (knots i g) true _
               (λ e es more. group-read i ok f ss at g.text g.meta e es more ha),
         )
-        (ap {B = List Group} (λ r. group_of g ∷ r) (messages_read _ tag_len gs rest ok.tag_fits))
+        (ap {B = List Group} (λ r. group_of g ∷ r) (messages_read (message i f false ss at g).states tag_len gs rest ok.tag_fits))
 
     -- the blocks of a session with more behind them: the session, and more messages
     pub session_read : (a : Start) (gs : List Message) (rest : List Blocks) → Keyed a
@@ -81,7 +81,7 @@ module _ (i : Instance) where
     -- ---- the states
     pub steps_run : (ss : States) (at : ℕ) (xs : List Step) → (steps i f ss at xs).states ≡ run i f ss (steps i f ss at xs).blocks
     steps_run ss at [] = refl
-    steps_run ss at (x ∷ xs) = rw (run-append, ← message_run i f x.decrypt ss at x.message) (steps_run _ tag_len xs)
+    steps_run ss at (x ∷ xs) = rw (run-append, ← message_run i f x.decrypt ss at x.message) (steps_run (message i f x.decrypt ss at x.message).states tag_len xs)
 
     -- steps that wrap and unwrap come to what wrapping their plaintexts comes to
     step_told : (ss : States) (at : ℕ) (x : Step) → at < text_rate i

@@ -1,5 +1,6 @@
 // The plan of a group as the code walks it, block by block, the same at every width of a lane: which stretch of the text and
 // of the metadata the next block takes, and where in the block they go. Serves the Piston's code; no public call.
+#![tactic(auto)]
 ghost use Rattle.std.specs.Prelude.{◌≡◌, ◌||◌, ◌+◌, ◌≤◌, ◌<◌, ltb, length, get_or, take, drop};
 ghost use Rattle.plan.specs.Cut.{from_by, cut_by, eom_at, Bytewise, offset_bytes};
 ghost use Rattle.plan.specs.Start.{start_bytes};
@@ -10,7 +11,7 @@ ghost use Rattle.motorist.specs.Instance.{tag_len};
 use rates::{ByteCount, Rates};
 
 // The block's text is the message's from `text` up to `textend`, from byte `at` of the block on; metadata likewise, from `from` on.
-#[derive(Drop)]
+#[derive(Clone, Copy)]
 pub struct Cut {
     pub at: ByteCount,
     pub text: ByteCount,

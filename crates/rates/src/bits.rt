@@ -4,7 +4,7 @@ ghost use Rattle.motorist.specs.Instance.{in_bytes, round_up};
 
 use crate::byte_count::ByteCount;
 
-#[derive(Drop)]
+#[derive(Clone, Copy)]
 pub struct BitCount(pub usize);
 
 // The one place where a count of bits becomes a count of bytes.

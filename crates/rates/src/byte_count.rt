@@ -4,7 +4,7 @@ ghost use Rattle.std.specs.Prelude.{◌≡◌, ◌+◌, ◌-◌, ◌<◌, ◌≤
 ghost use Rattle.std.specs.Int.{w64};
 ghost use Rattle.std.proofs.Common.{Fits};
 
-#[derive(Drop)]
+#[derive(Clone, Copy)]
 pub struct ByteCount(pub usize);
 
 // The bytes of a chaining value at every instance here, for the arrays that hold one.

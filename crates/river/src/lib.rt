@@ -1,5 +1,6 @@
 // River: a session of Keyak v2 over KECCAK-p[800, 12]. The public calls start, wrap and unwrap, and the record that they hand on.
 // Here a call is refused or not. Its work is in `work`: a ride of `rides`, the tag by `tags`, and one of the `endings`.
+#![tactic(auto)]
 mod endings;
 mod rides;
 mod tags;
@@ -12,7 +13,7 @@ ghost use Rattle.river.specs.River.{unstarted, outcome, message, wrap_of, unwrap
 
 use table::{Answer, Phase, StartTag};
 
-#[derive(Drop)]
+#[derive(Clone, Copy)]
 pub struct Session {
     pub lanes: [u32; 25],
     pub phase: Phase,
@@ -20,7 +21,7 @@ pub struct Session {
 }
 
 // What a call gives back: the answer, and the session for the next call.
-#[derive(Drop)]
+#[derive(Clone, Copy)]
 pub struct Turn {
     pub answer: Answer,
     pub session: Session,

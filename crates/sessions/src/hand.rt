@@ -3,7 +3,7 @@ use table::{Answer, Phase, StartTag};
 use trials::lanes::{State, bytes32, bytes64, from_bytes32, from_bytes64};
 
 // The lanes are in hand as bytes.
-#[derive(Drop)]
+#[derive(Clone, Copy)]
 pub struct Hand {
     pub river: bool,
     pub state: State,
@@ -12,14 +12,14 @@ pub struct Hand {
 }
 
 // What a call answers, and the record after it.
-#[derive(Drop)]
+#[derive(Clone, Copy)]
 pub struct Turn {
     pub answer: Answer,
     pub hand: Hand,
 }
 
 // The same of the permutation, which answers the rounds done.
-#[derive(Drop)]
+#[derive(Clone, Copy)]
 pub struct Rounds {
     pub rounds: usize,
     pub hand: Hand,

@@ -1,10 +1,11 @@
 // Runs sessions in the vector layout (docs/VECTORS.md) through the public calls of Lake and River and the public permutation,
 // and says how many calls agreed in everything that the file tells, and how many differed.
+#![tactic(auto)]
 mod around;
 mod hand;
 mod steps;
 
-use bytes::scan::find;
+use scan::find;
 use decimal::LARGEST;
 use hand::{Hand, unstarted};
 use std::num::wrapping_add_usize;
@@ -17,7 +18,7 @@ use vectors::tallies;
 use vectors::tallies::{Tallies, add, next_line};
 
 // The record in hand, and the tallies so far.
-#[derive(Drop)]
+#[derive(Clone, Copy)]
 struct Progress {
     hand: Hand,
     tallies: Tallies,

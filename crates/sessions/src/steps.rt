@@ -11,7 +11,7 @@ use vectors::guard::{BEFORE, TAG_ARRAY, kept, lent, output_array};
 use vectors::read::{Seen, begun, ends, given, number};
 
 // Whether all was as expected, and the record for the next step.
-#[derive(Drop)]
+#[derive(Clone, Copy)]
 pub struct Step {
     pub same: bool,
     pub hand: Hand,

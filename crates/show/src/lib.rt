@@ -1,5 +1,6 @@
 // What a person reads: words, numbers and columns, to the place that the caller names, and the words of the table's numbers. Each
 // answers whether all of it was written. Serves the main job.
+#![tactic(auto)]
 mod quotes;
 mod table_words;
 
@@ -56,13 +57,13 @@ pub fn number_in(to: i32, n: usize, width: usize) -> bool {
 
 // A well name, as long as it is.
 pub fn name(to: i32, well: [u8; 12]) -> bool {
-    let n = bytes::scan::find(&well, 0, 12, 0);
+    let n = scan::find(&well, 0, 12, 0);
     put(to, &well[0..n])
 }
 
 // A well name at the left of a column of 14.
 pub fn name_in(to: i32, well: [u8; 12]) -> bool {
-    let n = bytes::scan::find(&well, 0, 12, 0);
+    let n = scan::find(&well, 0, 12, 0);
     put(to, &well[0..n]) & spaces(to, 14 - n)
 }
 

@@ -1,5 +1,6 @@
 // The client's numbers: what a call answers when it is done or refuses, each by the name of its line in the table.
 // Every crate that refuses takes its numbers from here; the definitions take theirs from specs/Numbers.antt.
+#![tactic(auto)]
 ghost use Rattle.std.specs.Prelude.{◌≡◌};
 ghost use Rattle.table.specs.Refusals.{or_else};
 ghost use Rattle.table.specs.Choices.{is_riding, asked};
@@ -42,7 +43,7 @@ pub const READING_RANGE: u8 = 16;
 pub const TAG_BYTES: usize = 16;
 
 // What start, wrap and unwrap answer at every instance: the number, the bytes written, the permutation runs.
-#[derive(Drop)]
+#[derive(Clone, Copy)]
 pub struct Answer {
     pub number: u8,
     pub written: usize,
@@ -57,7 +58,7 @@ pub fn or_else(condition: bool, number: u8, rest: u8) -> u8
 }
 
 // How far a session has come.
-#[derive(Drop)]
+#[derive(Clone, Copy)]
 pub enum Phase {
     Unstarted,
     Riding,
@@ -65,7 +66,7 @@ pub enum Phase {
 }
 
 // The start tag's use: none is asked for, it goes into the tag buffer, or the tag buffer's is compared with it.
-#[derive(Drop)]
+#[derive(Clone, Copy)]
 pub enum StartTag {
     None,
     Produced,

@@ -4,7 +4,7 @@ ghost use Rattle.std.specs.Prelude.{◌<◌};
 use std::num::wrapping_add_u8;
 
 // Byte i is first + step * i + lift * (i / period), modulo 256; where `step` is 0, every byte is `first`.
-#[derive(Drop)]
+#[derive(Clone, Copy)]
 pub struct Pattern {
     pub first: u8,
     pub step: u8,

@@ -2,7 +2,7 @@
 use crate::say;
 use std::num::wrapping_add_usize;
 
-#[derive(Drop)]
+#[derive(Clone, Copy)]
 pub struct Tally {
     pub agreed: usize,
     pub differed: usize,

@@ -2,13 +2,13 @@
 // Each reader says too whether its words were sound, so that a line outside the layout is seen.
 ghost use Rattle.std.specs.Prelude.{◌≡◌, ◌≤◌, length};
 
-use bytes::scan::find;
+use scan::find;
 use slices::least;
 use std::num::wrapping_add_usize;
 use trials::pattern::{Pattern, fill};
 
 // Where a word begins and ends.
-#[derive(Drop)]
+#[derive(Clone, Copy)]
 struct Span {
     from: usize,
     to: usize,
@@ -29,7 +29,7 @@ fn after(w: Span) -> usize {
 }
 
 // Whether all was sound and as expected so far, and where the next word begins.
-#[derive(Drop)]
+#[derive(Clone, Copy)]
 pub struct Seen {
     pub same: bool,
     pub next: usize,
@@ -67,7 +67,7 @@ pub fn dash(line: &[u8], seen: Seen) -> Seen {
 }
 
 // A number that was read, and the line past it.
-#[derive(Drop)]
+#[derive(Clone, Copy)]
 pub struct Value {
     pub value: usize,
     pub seen: Seen,
@@ -109,7 +109,7 @@ fn digit(c: u8) -> u8 {
 }
 
 // A byte of two digits, and whether they are digits.
-#[derive(Drop)]
+#[derive(Clone, Copy)]
 struct Digits {
     value: u8,
     sound: bool,
@@ -147,7 +147,7 @@ fn place_told(hex: &[u8], into: &mut [u8]) -> bool {
 }
 
 // A pattern that was read, and the line past it.
-#[derive(Drop)]
+#[derive(Clone, Copy)]
 struct Drawn {
     pattern: Pattern,
     seen: Seen,
@@ -189,7 +189,7 @@ fn hex(line: &[u8], seen: Seen, into: &mut [u8]) -> Seen {
 }
 
 // Bytes that were read: how many, and the line past them.
-#[derive(Drop)]
+#[derive(Clone, Copy)]
 pub struct Part {
     pub length: usize,
     pub seen: Seen,

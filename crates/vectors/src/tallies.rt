@@ -9,7 +9,7 @@ pub const NO_CALL: usize = 8;
 // The other kinds: 0 to 3 are start, wrap, unwrap and permute of Lake, 4 to 7 the same of River. In a file of readings,
 // 0 is read and 1 is write.
 // `first` is the line of the first difference, 0 if there is none.
-#[derive(Drop)]
+#[derive(Clone, Copy)]
 pub struct Tallies {
     pub kinds: [Tally; 9],
     pub sessions: usize,

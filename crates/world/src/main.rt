@@ -1,4 +1,5 @@
 // Runs published vectors through the public permutation at both widths, and says of each group how many agreed and how many differed.
+#![tactic(auto)]
 mod compare;
 mod hashes;
 mod sponge;

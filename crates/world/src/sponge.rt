@@ -4,7 +4,7 @@ use std::num::{wrapping_add_usize, wrapping_sub_usize};
 use trials::lanes::{byte64, part};
 
 // A kind of hash: the bytes of a block, the rounds of the permutation, and the byte that follows the message.
-#[derive(Drop)]
+#[derive(Clone, Copy)]
 pub struct Kind {
     pub rate: usize,
     pub rounds: usize,
@@ -12,7 +12,7 @@ pub struct Kind {
 }
 
 // The state, and the byte of it that is next.
-#[derive(Drop)]
+#[derive(Clone, Copy)]
 struct Sponge {
     lanes: [u64; 25],
     at: usize,

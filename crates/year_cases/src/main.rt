@@ -1,6 +1,7 @@
 // The main job, run in the gate on what stops it before it seals, on what it takes though it looks odd, and on months that are opened
 // and cannot be read. Each case is named, then what the job says; what is wrong is sent to standard output here, so that it is held to
 // what is stored, but for the first two cases, which show that the job itself sends none of it there.
+#![tactic(auto)]
 mod unread;
 
 use libc::{STDERR_FILENO, STDOUT_FILENO};

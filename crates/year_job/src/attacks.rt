@@ -55,7 +55,7 @@ fn all_zero(s: &[u8]) -> bool {
 }
 
 // What became of a try: whether it was refused as it must be, and whether its line was written.
-#[derive(Drop)]
+#[derive(Clone, Copy)]
 pub struct Tried {
     pub refused: bool,
     pub written: bool,

@@ -9,7 +9,7 @@ pub const KEY: usize = 64;
 pub const NONCE: usize = 2048;
 
 // What was read of a file: `ok` where it is all of it.
-#[derive(Drop)]
+#[derive(Clone, Copy)]
 pub struct Loaded {
     pub ok: bool,
     pub length: usize,

@@ -3,6 +3,7 @@
 // The table goes to standard output; what is wrong goes to one other place, standard error. What stops the job ends in "Nothing was sealed."
 // The program year is this job on the sample year; year_cases shows what stops it before it seals, what it takes, and months that were opened
 // and cannot be read.
+#![tactic(auto)]
 ghost use Rattle.std.specs.Prelude.{◌≤◌, ◌≡◌, length};
 ghost use Rattle.packets.specs.Packet.{year_bytes};
 

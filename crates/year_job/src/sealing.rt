@@ -31,7 +31,7 @@ fn seal_all(channel: Channel, plain: &[u8], months: usize, sealed: &mut [u8]) ->
 
 // What opening a month gives: the session for the next, whether it could be read, whether the readings are those that were sealed, and
 // whether its row was written.
-#[derive(Drop)]
+#[derive(Clone, Copy)]
 struct Opened {
     channel: Channel,
     read: bool,

@@ -1,0 +1,14 @@
+-- The loop: what is left of the rounds, on the lanes so far, is all of them on the lanes at the start. A turn is `rounds-turn`, over l.
+use mathlib.Core.Path.{◌≡◌, sym, ap, ◌∙◌}
+use Prim.Native.Nat.{ℕ, ◌≤◌, ◌<◌, ◌-◌}
+use native.Mathlib.Omega.{arith}
+use borrow.Author.Rules.{rules}
+use Rattle.keccak.specs.Lanes.{rounds_l}
+use Rattle.keccak.proofs.Rounds.{rounds-turn, rounds_none}
+use Rattle.keccak64.proofs.run.Given as goal
+
+abbrev pub invariant-loop-ir : goal.invariant-loop-ir
+invariant-loop-ir l = (l.ir ≤ 24) × (rounds_l 6 (24 - l.ir) l.b ≡ rounds_l 6 l.rounds l.initial.b)
+
+abbrev pub decreases-loop-ir : goal.decreases-loop-ir
+decreases-loop-ir l = 24 - l.ir

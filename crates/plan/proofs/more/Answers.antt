@@ -1,0 +1,7 @@
+-- The proof that `plan::more` meets its contract.
+use mathlib.Core.Path.{refl}
+use borrow.Author.Rules.{rules}
+use Rattle.plan.proofs.more.Goals as goal
+
+pub returns : goal.returns
+returns c = rw (c.below-2.ensures, c.below.ensures) refl

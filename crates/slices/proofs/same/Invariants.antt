@@ -1,0 +1,16 @@
+-- The proof that `slices::same` meets its contract.
+use mathlib.Core.Path.{◌≡◌, refl, sym}
+use Prim.Native.Nat.{◌≤◌, ◌-◌}
+use borrow.Author.Rules.{rules}
+use lib.Dec.{eqb}
+use lib.ListN.{length, take}
+use lib.Seq.{take_all}
+use Rattle.slices.specs.Same.{same_bytes}
+use Rattle.slices.proofs.Agree.{same_lengths, same_more}
+use Rattle.slices.proofs.same.Given as goal
+
+abbrev pub invariant-loop-i : goal.invariant-loop-i
+invariant-loop-i l = (l.i ≤ length l.a) × (length l.a ≡ length l.b) × (eqb l.diff 0 ≡ same_bytes (take l.i l.a) (take l.i l.b))
+
+abbrev pub decreases-loop-i : goal.decreases-loop-i
+decreases-loop-i l = length l.a - l.i

@@ -9,11 +9,5 @@ use Rattle.plan.proofs.cut_at.Goals as goal
 pub rest-requires-2 : goal.rest-requires-2
 rest-requires-2 c = let a = c.args in omega (arith, from_le a.rates.text.0 c.rest-left.result.0, c.inject_start-from.ensures)
 
-pub sum-textend-requires : goal.sum-textend-requires
-sum-textend-requires c = let g = c.well-formed.1.1.1.0 in record { fits = omega (arith, g, c.lesser-k.ensures, c.rest-left.ensures) }
-
-pub sum-metaend-requires : goal.sum-metaend-requires
-sum-metaend-requires c = let g = c.well-formed.1.1.1.1.1 in record { fits = omega (arith, g, c.lesser-q.ensures, c.rest-3.ensures) }
-
 pub returns : goal.returns
 returns c = rw (ap counted c.sum-metaend.ensures, ap counted c.sum-textend.ensures, c.lesser-q.ensures, c.rest-3.ensures, c.rest-2.ensures, c.lesser-k.ensures, c.rest.ensures, ap counted c.inject_start-from.ensures, c.rest-left.ensures) refl

@@ -1,0 +1,33 @@
+-- The proof that `lanes32::stream_whole` meets its contract.
+use mathlib.Core.Path.{◌≡◌, refl, sym}
+use mathlib.Core.List.{◌++◌}
+use Prim.Native.Nat.{◌+◌, ◌*◌, ◌-◌, ◌≤◌}
+use native.Mathlib.Omega.{arith}
+use lib.ListN.{length, take, drop}
+use Rattle.keccak.specs.State.{bytes}
+use Rattle.motorist.specs.Piston.{mask}
+use Rattle.endian.specs.Small.{Small}
+use Rattle.keccak.proofs.State.{bytes-length}
+use Rattle.piston.proofs.Turns.{stream_turn}
+use borrow.Author.Rules.{rules}
+use Rattle.lanes32.proofs.stream_whole.Goals as goal
+
+pub loop-j-init : goal.loop-j-init
+loop-j-init c = (search rules, search rules, refl)
+
+pub loop-j-preserved : goal.loop-j-preserved
+loop-j-preserved c =
+    let a = c.args in
+    let l = c.loop-j in
+    let small : Small a.s.now = λ i. (c.type_inv.s i).fits in
+    let t = stream_turn 4 a.q a.s.now small a.t1 l.j c.load32.result (omega arith)
+    a.out.now l.out c.store32.new.out (omega arith) (omega arith) (sym (bytes-length 4 a.t1)) l.invariant.2
+    c.load32.ensures c.store32.ensures in
+    (search rules, t.0, t.1)
+
+pub returns : goal.returns
+returns c =
+    let n = c.args.n in
+    let l = c.loop-j in
+    let e : l.j ≡ n = omega arith in
+    rw e at l.invariant.2

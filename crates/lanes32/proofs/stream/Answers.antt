@@ -16,10 +16,10 @@ returns-then-s-n c =
     let n = length a.s.now / 4 in
     let p : 4 * (a.p.0 / 4) ≡ a.p.0 = omega arith in
     let small : Small a.s.now = λ i. (c.type_inv.s i).fits in
-    rw p at (stream_rest 4 (a.p.0 / 4) a.s.now small a.t1 n c.load_part32.result (omega arith) a.out.now _ c.store_part32.new.out (omega arith) (omega arith) (omega arith) (sym (bytes-length 4 a.t1)) c.stream_whole.ensures c.load_part32.ensures c.store_part32.ensures)
+    rw p at (stream_rest 4 (a.p.0 / 4) a.s.now small a.lanes n c.load_part32.result (omega arith) a.out.now _ c.store_part32.new.out (omega arith) (omega arith) (omega arith) (sym (bytes-length 4 a.lanes)) c.stream_whole.ensures c.load_part32.ensures c.store_part32.ensures)
 
 pub returns-else-s-n : goal.returns-else-s-n
 returns-else-s-n c =
     let a = c.args in
     let p : 4 * (a.p.0 / 4) ≡ a.p.0 = omega arith in
-    rw p at (stream_whole 4 (a.p.0 / 4) a.s.now (bytes 4 a.t1) a.out.now _ (length a.s.now / 4) (omega arith) c.if-s-n.false c.stream_whole.ensures)
+    rw p at (stream_whole 4 (a.p.0 / 4) a.s.now (bytes 4 a.lanes) a.out.now _ (length a.s.now / 4) (omega arith) c.if-s-n.false c.stream_whole.ensures)

@@ -16,10 +16,10 @@ returns-then-s-n c =
     let n = length a.s.now / 8 in
     let p : 8 * (a.p.0 / 8) ≡ a.p.0 = omega arith in
     let small : Small a.s.now = λ i. (c.type_inv.s i).fits in
-    rw p at (stream_rest 8 (a.p.0 / 8) a.s.now small a.t1 n c.load_part64.result (omega arith) a.out.now _ c.store_part64.new.out (omega arith) (omega arith) (omega arith) (sym (bytes-length 8 a.t1)) c.stream_whole.ensures c.load_part64.ensures c.store_part64.ensures)
+    rw p at (stream_rest 8 (a.p.0 / 8) a.s.now small a.lanes n c.load_part64.result (omega arith) a.out.now _ c.store_part64.new.out (omega arith) (omega arith) (omega arith) (sym (bytes-length 8 a.lanes)) c.stream_whole.ensures c.load_part64.ensures c.store_part64.ensures)
 
 pub returns-else-s-n : goal.returns-else-s-n
 returns-else-s-n c =
     let a = c.args in
     let p : 8 * (a.p.0 / 8) ≡ a.p.0 = omega arith in
-    rw p at (stream_whole 8 (a.p.0 / 8) a.s.now (bytes 8 a.t1) a.out.now _ (length a.s.now / 8) (omega arith) c.if-s-n.false c.stream_whole.ensures)
+    rw p at (stream_whole 8 (a.p.0 / 8) a.s.now (bytes 8 a.lanes) a.out.now _ (length a.s.now / 8) (omega arith) c.if-s-n.false c.stream_whole.ensures)

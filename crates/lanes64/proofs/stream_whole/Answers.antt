@@ -20,8 +20,8 @@ loop-j-preserved c =
     let a = c.args in
     let l = c.loop-j in
     let small : Small a.s.now = λ i. (c.type_inv.s i).fits in
-    let t = stream_turn 8 a.q a.s.now small a.t1 l.j c.load64.result (omega arith)
-    a.out.now l.out c.store64.new.out (omega arith) (omega arith) (sym (bytes-length 8 a.t1)) l.invariant.2
+    let t = stream_turn 8 a.q a.s.now small a.lanes l.j c.load64.result (omega arith)
+    a.out.now l.out c.store64.new.out (omega arith) (omega arith) (sym (bytes-length 8 a.lanes)) l.invariant.2
     c.load64.ensures c.store64.ensures in
     (search rules, t.0, t.1)
 

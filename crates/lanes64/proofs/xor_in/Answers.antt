@@ -15,11 +15,11 @@ returns-then-s-n c =
     let whole = c.xor_in_whole in
     let p : 8 * (a.p.0 / 8) ≡ a.p.0 = omega arith in
     let small : Small a.s.now = λ i. (c.type_inv.s i).fits in
-    (simp length-set whole.ensures.0, rw p at (xor_in_rest 8 (a.p.0 / 8) a.s.now small whole.new.0 (length a.s.now / 8) c.load_part64.result (omega (arith, whole.ensures.0)) (bytes 8 a.lanes.now) (omega arith) (omega arith) whole.ensures.1 c.load_part64.ensures))
+    (simp length-set whole.ensures.0, rw p at (xor_in_rest 8 (a.p.0 / 8) a.s.now small whole.new.lanes (length a.s.now / 8) c.load_part64.result (omega (arith, whole.ensures.0)) (bytes 8 a.lanes.now) (omega arith) (omega arith) whole.ensures.1 c.load_part64.ensures))
 
 pub returns-else-s-n : goal.returns-else-s-n
 returns-else-s-n c =
     let a = c.args in
     let whole = c.xor_in_whole in
     let p : 8 * (a.p.0 / 8) ≡ a.p.0 = omega arith in
-    (whole.ensures.0, rw p at (xor_in_whole 8 (a.p.0 / 8) a.s.now (bytes 8 a.lanes.now) (bytes 8 whole.new.0) (length a.s.now / 8) c.if-s-n.false whole.ensures.1))
+    (whole.ensures.0, rw p at (xor_in_whole 8 (a.p.0 / 8) a.s.now (bytes 8 a.lanes.now) (bytes 8 whole.new.lanes) (length a.s.now / 8) c.if-s-n.false whole.ensures.1))

@@ -1,0 +1,23 @@
+-- The proof that `piston64::inject` meets its contract.
+use mathlib.Core.Path.{refl}
+use native.Mathlib.Omega.{arith}
+use Rattle.lanes64.specs.State.{state_of}
+use Rattle.motorist.specs.Keyak.{lake_f}
+use Rattle.motorist.proofs.Instances.{lake_sound}
+use Rattle.plan.proofs.Knots.{inject-step}
+use borrow.Author.Rules.{rules}
+use Rattle.piston64.proofs.Numbers.{room}
+use Rattle.piston64.proofs.inject.Goals as goal
+
+pub as_byte-end-requires : goal.as_byte-end-requires
+as_byte-end-requires c = omega (arith, room, c.length_of.ensures, c.requires.1)
+
+pub finish-requires : goal.finish-requires
+finish-requires c =
+    let p = c.requires in (p.0.full, refl, omega (arith, room, p.1))
+
+pub returns : goal.returns
+returns c =
+    let a = c.args in
+    let e = rw (c.as_byte-end.ensures, c.length_of.ensures) at c.finish.ensures in
+    inject-step 1600 64 256 lake_f lake_sound (state_of a.lanes) a.meta.now a.eom c.requires.1 (state_of c.finish.result) e

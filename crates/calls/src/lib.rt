@@ -2,6 +2,7 @@
 // In code here is what no instance changes: which refusal is given, the answer, where the next text starts, what a wrong tag withholds.
 // Serves the instances; no public call.
 #![tactic(auto)]
+
 ghost use Rattle.std.specs.Prelude.{◌≡◌, ◌≤◌, length};
 ghost use Rattle.table.specs.Numbers.{done};
 ghost use Rattle.table.specs.Refusals.{first};

@@ -1,5 +1,6 @@
 // The header of a month and the series of two: public calls read_header, write_header, same_series, which the crate dip passes on.
 #![tactic(auto)]
+
 mod header;
 mod series;
 

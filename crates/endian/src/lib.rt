@@ -1,6 +1,7 @@
 // Little-endian numbers in lent bytes, at the widths that the dip and the lanes have: loading and storing.
 // Serves the crates above; no public call.
 #![tactic(auto)]
+
 ghost use Rattle.std.specs.Prelude.{◌≡◌, ◌<◌, ◌≤◌, length};
 ghost use Rattle.endian.specs.Little.{from_bytes, to_bytes};
 

@@ -1,6 +1,7 @@
 // The Engine and the Motorist on 25 lanes of 32 bits, for one Piston: a group of blocks, a knot, a whole message and a whole start.
 // Serves River's calls, which know the session; here are lanes, a place where text starts and slices. No public call.
 #![tactic(auto)]
+
 ghost use Rattle.std.specs.Prelude.{◌≡◌, [], ◌∷◌, ◌+◌, ◌%◌, ◌≤◌, ◌<◌, length, take, drop};
 ghost use Rattle.lanes32.specs.State.{state_of};
 ghost use Rattle.motorist.specs.Instance.{river, text_rate, full_rate, pack_length, chain_length};

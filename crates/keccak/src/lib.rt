@@ -1,6 +1,7 @@
 // KECCAK-p: its definitions (specs/) and their laws over the width (proofs/), and the table of round constants, once for both
 // widths of the code. Serves those; no public call.
 #![tactic(auto)]
+
 ghost use Rattle.std.specs.Prelude.{◌≡◌};
 ghost use Rattle.keccak.specs.Tables.{constants};
 

@@ -1,5 +1,6 @@
 // KECCAK-p[1600, n] on 25 lanes of 64 bits. `permute` is the public call; `permute12` serves the crates above.
 #![tactic(auto)]
+
 ghost use Rattle.std.specs.Prelude.{◌≡◌, ◌%◌, ◌^◌, ◌≤◌};
 ghost use Rattle.keccak.specs.Lanes.{rounds_l};
 ghost use Rattle.keccak.specs.State.{bytes, keccak_bytes};

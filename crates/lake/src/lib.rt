@@ -1,6 +1,7 @@
 // Lake: a session of Keyak v2 over KECCAK-p[1600, 12]. The public calls start, wrap and unwrap, and the record that they hand on.
 // Here a call is refused or not. Its work is in `work`: a ride of `rides`, the tag by `tags`, and one of the `endings`.
 #![tactic(auto)]
+
 mod endings;
 mod rides;
 mod tags;

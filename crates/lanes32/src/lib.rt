@@ -1,6 +1,7 @@
 // 25 lanes of 32 bits as a run of bytes: the zero state, bytes xored in, text under the key stream, the first bytes out.
 // Whole lanes at a time; bytes only at a run's end. Serves the Piston's code; no public call.
 #![tactic(auto)]
+
 ghost use Rattle.std.specs.Prelude.{◌≡◌, ◌+◌, ◌*◌, ◌%◌, ◌≤◌, ◌++◌, length, take, drop, replicate};
 ghost use Rattle.lanes32.specs.State.{state_of, state_bytes};
 ghost use Rattle.motorist.specs.Piston.{xors, mask};

@@ -1,6 +1,7 @@
 // The Piston on 25 lanes of 32 bits: one block of a message, and one of metadata alone.
 // Serves the Engine's code above it; here are lanes and slices. No public call.
 #![tactic(auto)]
+
 ghost use Rattle.std.specs.Prelude.{◌≡◌, [], ◌++◌, ◌+◌, ◌-◌, ◌%◌, ◌≤◌, length, take, drop};
 ghost use Rattle.lanes32.specs.State.{state_of, state_bytes};
 ghost use Rattle.motorist.specs.Instance.{river, full_rate};

@@ -1,6 +1,7 @@
 // The plan of a group as the code walks it, block by block, the same at every width of a lane: which stretch of the text and
 // of the metadata the next block takes, and where in the block they go. Serves the Piston's code; no public call.
 #![tactic(auto)]
+
 ghost use Rattle.std.specs.Prelude.{◌≡◌, ◌||◌, ◌+◌, ◌≤◌, ◌<◌, ltb, length, get_or, take, drop};
 ghost use Rattle.plan.specs.Cut.{from_by, cut_by, eom_at, Bytewise, offset_bytes};
 ghost use Rattle.plan.specs.Start.{start_bytes};

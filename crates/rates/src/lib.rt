@@ -1,6 +1,7 @@
 // The rates of an instance, in code: derived from width, lane and capacity, which are counted in bits, by document 003's rule.
 // Serves the block code, which takes every such number from here, and the counts of its own; no public call.
 #![tactic(auto)]
+
 ghost use Rattle.std.specs.Prelude.{◌<◌, ◌≤◌};
 ghost use Rattle.motorist.specs.Instance.{solo, lake, river};
 ghost use Rattle.rates.specs.Counts.{RatesOf};

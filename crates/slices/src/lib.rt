@@ -1,6 +1,7 @@
 // Work on lent bytes that every layer does: the lesser of two lengths, copying, clearing, comparing.
 // Serves the crates above; no public call.
 #![tactic(auto)]
+
 ghost use Rattle.std.specs.Prelude.{◌≡◌, ◌++◌, ◌≤◌, min, length, drop, replicate};
 ghost use Rattle.slices.specs.Same.{same_bytes};
 

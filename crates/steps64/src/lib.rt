@@ -1,6 +1,7 @@
 // The round of KECCAK-p[1600] on 25 lanes of 64 bits, lane 5 y + x for column x and row y. Serves keccak64; no public call.
 // Each step reads every lane once, into a local, and makes a new set of lanes: so it needs no proof file, and is fast.
 #![tactic(auto)]
+
 ghost use Rattle.std.specs.Prelude.{◌≡◌};
 ghost use Rattle.keccak.specs.Lanes.{theta_l, rho_pi_l, chi_l, iota_l, round_l};
 

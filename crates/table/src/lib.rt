@@ -1,6 +1,7 @@
 // The client's numbers: what a call answers when it is done or refuses, each by the name of its line in the table.
 // Every crate that refuses takes its numbers from here; the definitions take theirs from specs/Numbers.antt.
 #![tactic(auto)]
+
 ghost use Rattle.std.specs.Prelude.{◌≡◌};
 ghost use Rattle.table.specs.Refusals.{or_else};
 ghost use Rattle.table.specs.Choices.{is_riding, asked};

@@ -1,0 +1,6 @@
+-- The proof that `lake::rides::of_message` meets its contract.
+use borrow.Author.Rules.{rules}
+use Rattle.lake.proofs.rides.of_message.Goals as goal
+
+pub returns : goal.returns
+returns c = c.message.ensures

@@ -1,0 +1,15 @@
+-- The proof that `lake::work::unseal` meets its contract.
+use mathlib.Core.Path.{refl, ◌∙◌}
+use Rattle.motorist.specs.Instance.{lake}
+use Rattle.motorist.proofs.Instances.{lake_sound}
+use Rattle.calls.proofs.Meets.{text_fits_lem, text_lane, unwrapped_is}
+use Rattle.lake.specs.Lake.{records}
+use borrow.Author.Rules.{rules}
+use Rattle.lake.proofs.work.unseal.Goals as goal
+
+pub of_message-ran-requires : goal.of_message-ran-requires
+of_message-ran-requires c =
+    let k = c.requires in record { at_bound = (text_fits_lem lake lake_sound k, text_lane 8 refl refl k, k.output); text_len_bound = (k.text, k.meta) }
+
+pub returns : goal.returns
+returns c = c.judged.ensures _ _ ∙ rw (c.withhold.ensures, c.tag_is-right.ensures) (unwrapped_is records c.of_message-ran.ensures _ (search rules) (search rules))

@@ -1,0 +1,14 @@
+-- The proof that `river::endings::riding` meets its contract.
+use borrow.Author.Rules.{rules}
+use mathlib.Core.Path.{refl}
+use Prim.Native.Nat.{ℕ}
+use lib.ListN.{get_or}
+use mir.Syntax.{w32}
+use mir.Val.{Fits}
+use Rattle.calls.proofs.Meets.{lanes_back}
+use Rattle.river.proofs.endings.riding.Goals as goal
+
+pub returns : goal.returns
+returns c =
+    let n : (i : ℕ) → Fits w32 (get_or c.args.lanes i 0) = λ i. search rules in
+    rw (lanes_back 4 25 c.args.lanes (search rules) (λ i. (n i).fits)) refl

@@ -1,0 +1,17 @@
+-- The proof that `river::wrap` meets its contract.
+use mathlib.Core.Path.{◌∙◌}
+use Rattle.motorist.specs.Instance.{river}
+use Rattle.motorist.specs.Keyak.{river_f}
+use Rattle.calls.proofs.Meets.{message_allowed, wrap-refused, wrap_done}
+use Rattle.river.specs.River.{records}
+use borrow.Author.Rules.{rules}
+use Rattle.river.proofs.wrap.Goals as goal
+
+pub seal-requires : goal.seal-requires
+seal-requires c = message_allowed c.refusal-why.ensures c.if-why-eq-DONE.true
+
+pub returns-then-why-eq-DONE : goal.returns-then-why-eq-DONE
+returns-then-why-eq-DONE c = c.seal.ensures ∙ wrap_done records river river_f _ _ _ _ c.refusal-why.ensures c.if-why-eq-DONE.true
+
+pub returns : goal.returns
+returns c = rw c.refused.ensures (wrap-refused records river river_f _ _ _ _ c.refusal-why.ensures c.if-why-eq-DONE.false)

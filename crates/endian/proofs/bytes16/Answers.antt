@@ -1,7 +1,6 @@
 -- The proof that `endian::bytes16` meets its contract.
 use mathlib.Core.Path.{sym}
 use Rattle.endian.proofs.Laws.{stored}
-use borrow.Author.Rules.{rules}
 use Rattle.endian.proofs.bytes16.Goals as goal
 
 pub returns : goal.returns

@@ -1,9 +1,9 @@
 -- The proof that `endian::load_part64` meets its contract.
 use mathlib.Core.Path.{◌≡◌, refl}
-use Prim.Native.Nat.{◌+◌, ◌*◌, ◌-◌, ◌≤◌, ◌<◌, ◌^◌}
+use Prim.Native.Nat.{◌+◌, ◌-◌}
 use native.Mathlib.Omega.{arith}
 use borrow.Author.Rules.{rules}
-use lib.ListN.{length, drop, drop_of_length-le}
+use lib.ListN.{length, drop_of_length-le}
 use Rattle.endian.specs.Little.{from_bytes}
 use Rattle.endian.proofs.Laws.{load_more, part_room, part_more}
 use Rattle.endian.proofs.load_part64.Goals as goal

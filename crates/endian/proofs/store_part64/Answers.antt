@@ -1,11 +1,10 @@
 -- The proof that `endian::store_part64` meets its contract.
 use mathlib.Core.Path.{◌≡◌, refl, sym, ◌∙◌}
-use mathlib.Core.List.{◌++◌, append-nil}
-use Prim.Native.Nat.{◌*◌, ◌/◌, ◌-◌, ◌≤◌, ◌^◌}
+use mathlib.Core.List.{append-nil}
 use native.Mathlib.Nat.{div-one}
 use native.Mathlib.Omega.{arith}
 use borrow.Author.Rules.{rules}
-use lib.ListN.{length, drop, length-set, drop_of_length-le}
+use lib.ListN.{length, length-set, drop_of_length-le}
 use Rattle.endian.specs.Little.{to_bytes}
 use Rattle.endian.proofs.Laws.{store_more, shift_more}
 use Rattle.endian.proofs.store_part64.Goals as goal

@@ -1,13 +1,9 @@
 -- The proof that `endian::store_part64` meets its contract.
-use mathlib.Core.Path.{◌≡◌, refl, sym, ◌∙◌}
-use mathlib.Core.List.{◌++◌, append-nil}
+use mathlib.Core.Path.{◌≡◌}
+use mathlib.Core.List.{◌++◌}
 use Prim.Native.Nat.{◌*◌, ◌/◌, ◌-◌, ◌≤◌, ◌^◌}
-use native.Mathlib.Nat.{div-one}
-use native.Mathlib.Omega.{arith}
-use borrow.Author.Rules.{rules}
-use lib.ListN.{length, drop, length-set, drop_of_length-le}
+use lib.ListN.{length, drop}
 use Rattle.endian.specs.Little.{to_bytes}
-use Rattle.endian.proofs.Laws.{store_more, shift_more}
 use Rattle.endian.proofs.store_part64.Given as goal
 
 abbrev pub invariant-loop-i : goal.invariant-loop-i

@@ -1,10 +1,8 @@
 -- The proof that `slices::clear` meets its contract.
-use mathlib.Core.Path.{◌≡◌, ◌∙◌}
-use mathlib.Core.List.{◌++◌, append-nil}
+use mathlib.Core.Path.{◌≡◌}
+use mathlib.Core.List.{◌++◌}
 use Prim.Native.Nat.{◌≤◌, ◌-◌}
-use borrow.Author.Rules.{rules}
-use borrow.Author.Fill.{fill_more}
-use lib.ListN.{length, drop, replicate, length-set, drop_of_length-le}
+use lib.ListN.{length, drop, replicate}
 use Rattle.slices.proofs.clear.Given as goal
 
 abbrev pub invariant-loop-i : goal.invariant-loop-i

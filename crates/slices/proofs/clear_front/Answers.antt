@@ -1,7 +1,6 @@
 -- The proof that `slices::clear_front` meets its contract.
 use mathlib.Core.Path.{refl, sym}
 use lib.Seq.{length-take-le}
-use borrow.Author.Rules.{rules}
 use Rattle.slices.proofs.clear_front.Goals as goal
 
 pub slice_bounds-clear-end-2 : goal.slice_bounds-clear-end-2

@@ -1,9 +1,8 @@
 -- The proof that `slices::copy` meets its contract.
-use mathlib.Core.Path.{◌≡◌, ◌∙◌}
-use mathlib.Core.List.{◌++◌, append-nil}
-use Prim.Native.Nat.{◌≤◌, ◌-◌}
+use mathlib.Core.Path.{◌∙◌}
+use mathlib.Core.List.{append-nil}
 use native.Mathlib.Omega.{arith}
-use lib.ListN.{length, take, drop, length-set, drop_of_length-le}
+use lib.ListN.{length-set, drop_of_length-le}
 use lib.Seq.{take_all}
 use borrow.Author.Rules.{rules}
 use Rattle.slices.proofs.Parts.{copy_more}

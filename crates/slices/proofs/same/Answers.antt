@@ -1,9 +1,6 @@
 -- The proof that `slices::same` meets its contract.
-use mathlib.Core.Path.{◌≡◌, refl, sym}
-use Prim.Native.Nat.{◌≤◌, ◌-◌}
+use mathlib.Core.Path.{refl, sym}
 use borrow.Author.Rules.{rules}
-use lib.Dec.{eqb}
-use lib.ListN.{length, take}
 use lib.Seq.{take_all}
 use Rattle.slices.specs.Same.{same_bytes}
 use Rattle.slices.proofs.Agree.{same_lengths, same_more}

@@ -1,12 +1,9 @@
 -- The proof that `slices::same` meets its contract.
-use mathlib.Core.Path.{◌≡◌, refl, sym}
+use mathlib.Core.Path.{◌≡◌}
 use Prim.Native.Nat.{◌≤◌, ◌-◌}
-use borrow.Author.Rules.{rules}
 use lib.Dec.{eqb}
 use lib.ListN.{length, take}
-use lib.Seq.{take_all}
 use Rattle.slices.specs.Same.{same_bytes}
-use Rattle.slices.proofs.Agree.{same_lengths, same_more}
 use Rattle.slices.proofs.same.Given as goal
 
 abbrev pub invariant-loop-i : goal.invariant-loop-i

@@ -1,6 +1,5 @@
 -- The four steps are a round: `round_made`, over the width.
 use Rattle.keccak.proofs.Rounds.{round_made}
-use borrow.Author.Rules.{rules}
 use Rattle.steps32.proofs.round.Goals as goal
 
 pub returns : goal.returns

@@ -1,11 +1,11 @@
 -- The proved set, computed: the plans B1 to B13 and the key pack, figures 6 and 11 of document 003, and what no general law pins: all on whole blocks.
 -- Only lengths matter to a plan, so keys, nonces, texts and metadata are sevens, and the permutation changes nothing.
-use Rattle.std.specs.Prelude.{ℕ, ◌≡◌, refl, Bool, true, false, List, [], ◌∷◌, ◌++◌, map, length, get_or, take, drop, replicate}
+use Rattle.std.specs.Prelude.{◌≡◌, refl, true, false, [], ◌∷◌, ◌++◌, map, get_or, take, drop, replicate}
 use Rattle.std.proofs.Math.Seq.{slice}
-use Rattle.motorist.specs.Instance.{Instance, state_length, text_rate, full_rate, chain_length, pack_length, lake, river, sea, ocean, lunar}
-use Rattle.motorist.specs.Piston.{Bytes, block, eom_of, crypt_end_of, offsets_of}
-use Rattle.motorist.specs.Engine.{States, Ride, first_piston, round, plan, inject_collective}
-use Rattle.motorist.specs.Motorist.{Start, Message, key_pack, start, message, wrap, unwrap}
+use Rattle.motorist.specs.Instance.{state_length, text_rate, full_rate, chain_length, pack_length, lake, sea, ocean, lunar}
+use Rattle.motorist.specs.Piston.{block, eom_of, crypt_end_of}
+use Rattle.motorist.specs.Engine.{Ride, round, plan, inject_collective}
+use Rattle.motorist.specs.Motorist.{start, message, wrap, unwrap}
 use Rattle.motorist.specs.Session.{session_blocks}
 use Rattle.motorist.specs.Examples.{still, starting, sevens, start_plan, message_plan, rows, ones_and_twos}
 

@@ -1,11 +1,10 @@
 -- What the proved set is computed on: 01's plans B1 to B13 and the key pack, beside what 01 states, at whole blocks. proofs/Examples.antt computes both sides.
 -- Only lengths matter to a plan, so keys, nonces, texts and metadata are sevens, and the permutation changes nothing.
-use Rattle.std.specs.Prelude.{ℕ, ◌≡◌, refl, Bool, true, false, List, [], ◌∷◌, ◌++◌, map, length, get_or, take, drop, replicate}
-use Rattle.std.proofs.Math.Seq.{slice}
-use Rattle.motorist.specs.Instance.{Instance, state_length, text_rate, full_rate, chain_length, pack_length, lake, river, sea, ocean, lunar}
-use Rattle.motorist.specs.Piston.{Bytes, block, eom_of, crypt_end_of, offsets_of}
-use Rattle.motorist.specs.Engine.{States, Ride, first_piston, round, plan, inject_collective}
-use Rattle.motorist.specs.Motorist.{Start, Message, key_pack, start, message, wrap, unwrap}
+use Rattle.std.specs.Prelude.{ℕ, Bool, true, false, List, [], ◌∷◌, map, length, drop, replicate}
+use Rattle.motorist.specs.Instance.{Instance, state_length, text_rate, full_rate, chain_length, pack_length, lake, river}
+use Rattle.motorist.specs.Piston.{Bytes, block, offsets_of}
+use Rattle.motorist.specs.Engine.{States, first_piston, round, plan, inject_collective}
+use Rattle.motorist.specs.Motorist.{Start, Message, key_pack, start, message}
 use Rattle.motorist.specs.Session.{session_blocks}
 
 abbrev pub still : Bytes → Bytes

@@ -1,6 +1,5 @@
 -- The proof that `calls::start_refusal` meets its contract.
 use mathlib.Core.Path.{refl}
-use borrow.Author.Rules.{rules}
 use Rattle.calls.proofs.start_refusal.Goals as goal
 
 pub returns : goal.returns

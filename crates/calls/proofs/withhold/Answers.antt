@@ -1,6 +1,5 @@
 -- The proof that `calls::withhold` meets its contract.
 use mathlib.Core.Path.{refl}
-use borrow.Author.Rules.{rules}
 use Rattle.calls.proofs.withhold.Goals as goal
 
 pub returns-then-right : goal.returns-then-right

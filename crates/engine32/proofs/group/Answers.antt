@@ -2,14 +2,12 @@
 -- where the text starts is the first block's place
 use mathlib.Core.Path.{◌≡◌, refl, ap}
 use native.Mathlib.Omega.{arith}
-use lib.ListN.{length}
 use Rattle.lanes32.specs.State.{state_of}
 use Rattle.motorist.specs.Keyak.{river_f}
 use Rattle.motorist.proofs.Instances.{river_sound}
 use Rattle.plan.specs.declared.Cut.{Cut}
-use Rattle.plan.proofs.Walk.{Stage, ahead, stage_none, stage_next, fewer_ahead}
+use Rattle.plan.proofs.Walk.{stage_none, stage_next, fewer_ahead}
 use Rattle.piston32.proofs.Numbers.{text_lane}
-use borrow.Author.Rules.{rules}
 use Rattle.engine32.proofs.group.Goals as goal
 
 pub first_cut-cut-requires : goal.first_cut-cut-requires

@@ -1,15 +1,10 @@
 -- The proof that `engine32::group` meets its contract.
 -- where the text starts is the first block's place
-use mathlib.Core.Path.{◌≡◌, refl, ap}
-use native.Mathlib.Omega.{arith}
 use lib.ListN.{length}
 use Rattle.lanes32.specs.State.{state_of}
 use Rattle.motorist.specs.Keyak.{river_f}
 use Rattle.motorist.proofs.Instances.{river_sound}
-use Rattle.plan.specs.declared.Cut.{Cut}
-use Rattle.plan.proofs.Walk.{Stage, ahead, stage_none, stage_next, fewer_ahead}
-use Rattle.piston32.proofs.Numbers.{text_lane}
-use borrow.Author.Rules.{rules}
+use Rattle.plan.proofs.Walk.{Stage, ahead}
 use Rattle.engine32.proofs.group.Given as goal
 
 abbrev pub invariant-loop-going : goal.invariant-loop-going

@@ -6,7 +6,6 @@ use Rattle.lanes32.specs.State.{state_of}
 use Rattle.motorist.proofs.Instances.{river_sound}
 use Rattle.piston32.proofs.Numbers.{chain-bytes}
 use Rattle.rates.specs.Counts.{chain_bytes}
-use borrow.Author.Rules.{rules}
 use Rattle.engine32.proofs.knot.Goals as goal
 
 pub inject-requires : goal.inject-requires

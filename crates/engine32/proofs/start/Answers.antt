@@ -7,7 +7,6 @@ use Rattle.motorist.specs.Keyak.{river_f}
 use Rattle.motorist.specs.Engine.{Ride}
 use Rattle.motorist.proofs.Instances.{river_sound}
 use Rattle.plan.proofs.Knots.{start_plain, start_knot}
-use borrow.Author.Rules.{rules}
 use Rattle.engine32.proofs.start.Goals as goal
 
 pub as_byte-chain-requires : goal.as_byte-chain-requires

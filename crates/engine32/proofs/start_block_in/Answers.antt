@@ -1,7 +1,6 @@
 -- The proof that `engine32::start_block_in` meets its contract.
 use native.Mathlib.Omega.{arith}
 use Rattle.motorist.proofs.Instances.{river_sound}
-use borrow.Author.Rules.{rules}
 use Rattle.engine32.proofs.start_block_in.Goals as goal
 
 pub start_part-requires : goal.start_part-requires

@@ -1,18 +1,12 @@
 -- The proof that `engine32::start_group` meets its contract.
-use borrow.Author.Rules.{rules}
-use borrow.Author.Tests.{ltb-true, ltb-false}
-use mathlib.Core.Path.{sym, ◌∙◌}
-use Prim.Native.Nat.{◌-◌, ◌≤◌, ◌<◌}
-use native.Mathlib.Omega.{arith}
+use Prim.Native.Nat.{◌-◌}
 use lib.ListN.{length}
 use Rattle.lanes32.specs.State.{state_of}
 use Rattle.motorist.specs.Keyak.{river_f}
 use Rattle.motorist.specs.Instance.{river, pack_length}
 use Rattle.motorist.proofs.Instances.{river_sound}
 use Rattle.plan.specs.Start.{start_bytes}
-use Rattle.plan.proofs.StartBytes.{start_total}
-use Rattle.plan.proofs.Knots.{Starting, starting_none, starting_more, starting_last}
-use Rattle.piston32.proofs.Numbers.{zero_state}
+use Rattle.plan.proofs.Knots.{Starting}
 use Rattle.engine32.proofs.start_group.Given as goal
 
 abbrev pub invariant-loop-full : goal.invariant-loop-full

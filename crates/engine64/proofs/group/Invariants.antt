@@ -1,15 +1,10 @@
 -- The proof that `engine64::group` meets its contract.
 -- where the text starts is the first block's place
-use mathlib.Core.Path.{◌≡◌, refl, ap}
-use native.Mathlib.Omega.{arith}
 use lib.ListN.{length}
 use Rattle.lanes64.specs.State.{state_of}
 use Rattle.motorist.specs.Keyak.{lake_f}
 use Rattle.motorist.proofs.Instances.{lake_sound}
-use Rattle.plan.specs.declared.Cut.{Cut}
-use Rattle.plan.proofs.Walk.{Stage, ahead, stage_none, stage_next, fewer_ahead}
-use Rattle.piston64.proofs.Numbers.{text_lane}
-use borrow.Author.Rules.{rules}
+use Rattle.plan.proofs.Walk.{Stage, ahead}
 use Rattle.engine64.proofs.group.Given as goal
 
 abbrev pub invariant-loop-going : goal.invariant-loop-going

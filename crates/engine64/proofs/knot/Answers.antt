@@ -6,7 +6,6 @@ use Rattle.lanes64.specs.State.{state_of}
 use Rattle.motorist.proofs.Instances.{lake_sound}
 use Rattle.piston64.proofs.Numbers.{chain-bytes}
 use Rattle.rates.specs.Counts.{chain_bytes}
-use borrow.Author.Rules.{rules}
 use Rattle.engine64.proofs.knot.Goals as goal
 
 pub inject-requires : goal.inject-requires

@@ -5,7 +5,6 @@ use Rattle.motorist.specs.Keyak.{lake_f}
 use Rattle.motorist.proofs.Instances.{lake_sound}
 use Rattle.motorist.proofs.Rides.{rode_as}
 use Rattle.plan.proofs.Knots.{message_plain, message_knot}
-use borrow.Author.Rules.{rules}
 use Rattle.engine64.proofs.message.Goals as goal
 
 pub as_byte-chain-requires : goal.as_byte-chain-requires

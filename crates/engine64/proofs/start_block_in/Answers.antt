@@ -1,7 +1,6 @@
 -- The proof that `engine64::start_block_in` meets its contract.
 use native.Mathlib.Omega.{arith}
 use Rattle.motorist.proofs.Instances.{lake_sound}
-use borrow.Author.Rules.{rules}
 use Rattle.engine64.proofs.start_block_in.Goals as goal
 
 pub start_part-requires : goal.start_part-requires

@@ -1,10 +1,7 @@
 -- The loop: what is left of the rounds, on the lanes so far, is all of them on the lanes at the start. A turn is `rounds-turn`, over l.
-use mathlib.Core.Path.{◌≡◌, sym, ap, ◌∙◌}
-use Prim.Native.Nat.{ℕ, ◌≤◌, ◌<◌, ◌-◌}
-use native.Mathlib.Omega.{arith}
-use borrow.Author.Rules.{rules}
+use mathlib.Core.Path.{◌≡◌}
+use Prim.Native.Nat.{◌≤◌, ◌-◌}
 use Rattle.keccak.specs.Lanes.{rounds_l}
-use Rattle.keccak.proofs.Rounds.{rounds-turn, rounds_none}
 use Rattle.keccak32.proofs.run.Given as goal
 
 abbrev pub invariant-loop-ir : goal.invariant-loop-ir

@@ -4,7 +4,6 @@ use Rattle.motorist.specs.Instance.{lake}
 use Rattle.motorist.specs.Keyak.{lake_f}
 use Rattle.calls.proofs.Meets.{start_allowed, start_refused, start_done}
 use Rattle.lake.specs.Lake.{records}
-use borrow.Author.Rules.{rules}
 use Rattle.lake.proofs.start.Goals as goal
 
 pub begin-requires : goal.begin-requires

@@ -4,7 +4,6 @@ use Rattle.motorist.specs.Instance.{lake}
 use Rattle.motorist.specs.Keyak.{lake_f}
 use Rattle.calls.proofs.Meets.{message_allowed, wrap-refused, wrap_done}
 use Rattle.lake.specs.Lake.{records}
-use borrow.Author.Rules.{rules}
 use Rattle.lake.proofs.wrap.Goals as goal
 
 pub seal-requires : goal.seal-requires

@@ -7,7 +7,6 @@ use Rattle.keccak.specs.State.{bytes}
 use Rattle.keccak.proofs.State.{bytes-length}
 use Rattle.piston.proofs.Turns.{zeros-length, squeezed}
 use Rattle.rates.specs.Counts.{chain_bytes}
-use borrow.Author.Rules.{rules}
 use Rattle.lanes32.proofs.squeeze.Goals as goal
 
 pub slice_bounds-stream-end : goal.slice_bounds-stream-end

@@ -1,11 +1,8 @@
 -- The proof that `lanes32::xor_in_whole` meets its contract.
 use mathlib.Core.Path.{◌≡◌}
-use Prim.Native.Nat.{◌*◌, ◌-◌, ◌≤◌}
 use native.Mathlib.Omega.{arith}
-use lib.ListN.{length, take, length-set}
+use lib.ListN.{length-set}
 use Rattle.keccak.specs.State.{bytes}
-use Rattle.motorist.specs.Piston.{xors}
-use Rattle.piston.specs.Placed.{placed}
 use Rattle.endian.specs.Small.{Small}
 use Rattle.piston.proofs.Turns.{xor_in_none, xor_in_turn}
 use borrow.Author.Rules.{rules}

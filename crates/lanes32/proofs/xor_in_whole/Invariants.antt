@@ -1,14 +1,10 @@
 -- The proof that `lanes32::xor_in_whole` meets its contract.
 use mathlib.Core.Path.{◌≡◌}
 use Prim.Native.Nat.{◌*◌, ◌-◌, ◌≤◌}
-use native.Mathlib.Omega.{arith}
-use lib.ListN.{length, take, length-set}
+use lib.ListN.{length, take}
 use Rattle.keccak.specs.State.{bytes}
 use Rattle.motorist.specs.Piston.{xors}
 use Rattle.piston.specs.Placed.{placed}
-use Rattle.endian.specs.Small.{Small}
-use Rattle.piston.proofs.Turns.{xor_in_none, xor_in_turn}
-use borrow.Author.Rules.{rules}
 use Rattle.lanes32.proofs.xor_in_whole.Given as goal
 
 abbrev pub invariant-loop-j : goal.invariant-loop-j

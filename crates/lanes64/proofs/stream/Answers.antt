@@ -7,7 +7,6 @@ use Rattle.keccak.specs.State.{bytes}
 use Rattle.endian.specs.Small.{Small}
 use Rattle.keccak.proofs.State.{bytes-length}
 use Rattle.piston.proofs.Turns.{stream_whole, stream_rest}
-use borrow.Author.Rules.{rules}
 use Rattle.lanes64.proofs.stream.Goals as goal
 
 pub returns-then-s-n : goal.returns-then-s-n

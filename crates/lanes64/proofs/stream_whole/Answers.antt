@@ -1,11 +1,6 @@
 -- The proof that `lanes64::stream_whole` meets its contract.
 use mathlib.Core.Path.{◌≡◌, refl, sym}
-use mathlib.Core.List.{◌++◌}
-use Prim.Native.Nat.{◌+◌, ◌*◌, ◌-◌, ◌≤◌}
 use native.Mathlib.Omega.{arith}
-use lib.ListN.{length, take, drop}
-use Rattle.keccak.specs.State.{bytes}
-use Rattle.motorist.specs.Piston.{mask}
 use Rattle.endian.specs.Small.{Small}
 use Rattle.keccak.proofs.State.{bytes-length}
 use Rattle.piston.proofs.Turns.{stream_turn}

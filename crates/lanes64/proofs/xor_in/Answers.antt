@@ -6,7 +6,6 @@ use lib.ListN.{length, length-set}
 use Rattle.keccak.specs.State.{bytes}
 use Rattle.endian.specs.Small.{Small}
 use Rattle.piston.proofs.Turns.{xor_in_whole, xor_in_rest}
-use borrow.Author.Rules.{rules}
 use Rattle.lanes64.proofs.xor_in.Goals as goal
 
 pub returns-then-s-n : goal.returns-then-s-n

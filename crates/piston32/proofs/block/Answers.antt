@@ -7,7 +7,6 @@ use Rattle.motorist.specs.Instance.{river}
 use Rattle.motorist.proofs.Instances.{river_sound}
 use Rattle.plan.proofs.Step.{crypt_room, inject_room, bytewise, step}
 use Rattle.piston32.proofs.Numbers.{room}
-use borrow.Author.Rules.{rules}
 use Rattle.piston32.proofs.block.Goals as goal
 
 pub crypt-texted-requires : goal.crypt-texted-requires

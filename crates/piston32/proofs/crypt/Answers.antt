@@ -1,5 +1,4 @@
 -- The proof that `piston32::crypt` meets its contract.
-use borrow.Author.Rules.{rules}
 use Rattle.piston32.proofs.crypt.Goals as goal
 
 pub returns-then-decrypt : goal.returns-then-decrypt

@@ -3,7 +3,6 @@ use mathlib.Core.Path.{ap, ◌∙◌}
 use native.Mathlib.Omega.{arith}
 use Rattle.motorist.specs.Keyak.{river_f}
 use Rattle.piston32.proofs.Numbers.{room, full_lane}
-use borrow.Author.Rules.{rules}
 use Rattle.piston32.proofs.finish.Goals as goal
 
 pub xor_in-requires-2 : goal.xor_in-requires-2

@@ -5,7 +5,6 @@ use Rattle.lanes32.specs.State.{state_of}
 use Rattle.motorist.specs.Keyak.{river_f}
 use Rattle.motorist.proofs.Instances.{river_sound}
 use Rattle.plan.proofs.Knots.{inject-step}
-use borrow.Author.Rules.{rules}
 use Rattle.piston32.proofs.Numbers.{room}
 use Rattle.piston32.proofs.inject.Goals as goal
 

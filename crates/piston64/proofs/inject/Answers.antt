@@ -5,7 +5,6 @@ use Rattle.lanes64.specs.State.{state_of}
 use Rattle.motorist.specs.Keyak.{lake_f}
 use Rattle.motorist.proofs.Instances.{lake_sound}
 use Rattle.plan.proofs.Knots.{inject-step}
-use borrow.Author.Rules.{rules}
 use Rattle.piston64.proofs.Numbers.{room}
 use Rattle.piston64.proofs.inject.Goals as goal
 

@@ -3,7 +3,6 @@ use mathlib.Core.Path.{sym, ◌∙◌}
 use native.Mathlib.Omega.{arith}
 use borrow.Author.Tests.{eqb-true, eqb-false}
 use Rattle.plan.proofs.Step.{crypt_end_none, crypt_end_some}
-use borrow.Author.Rules.{rules}
 use Rattle.plan.proofs.crypt_end.Goals as goal
 
 pub returns-then-is_none : goal.returns-then-is_none

@@ -3,7 +3,6 @@ use mathlib.Core.Path.{refl, ap}
 use Rattle.rates.specs.Counts.{counted}
 use native.Mathlib.Omega.{arith}
 use Rattle.plan.proofs.Walk.{from_le}
-use borrow.Author.Rules.{rules}
 use Rattle.plan.proofs.cut_at.Goals as goal
 
 pub rest-requires-2 : goal.rest-requires-2

@@ -2,7 +2,6 @@
 use mathlib.Core.Path.{sym, ◌∙◌}
 use borrow.Author.Tests.{eqb-true, eqb-false}
 use Rattle.plan.proofs.Walk.{from_none, from_some}
-use borrow.Author.Rules.{rules}
 use Rattle.plan.proofs.inject_start.Goals as goal
 
 pub returns-then-is_none : goal.returns-then-is_none

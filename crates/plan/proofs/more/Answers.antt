@@ -1,6 +1,5 @@
 -- The proof that `plan::more` meets its contract.
 use mathlib.Core.Path.{refl}
-use borrow.Author.Rules.{rules}
 use Rattle.plan.proofs.more.Goals as goal
 
 pub returns : goal.returns

@@ -1,6 +1,5 @@
 -- The proof that `plan::offsets` meets its contract.
 use mathlib.Core.Path.{refl}
-use borrow.Author.Rules.{rules}
 use Rattle.plan.proofs.offsets.Goals as goal
 
 pub returns : goal.returns

@@ -1,7 +1,6 @@
 -- The proof that `plan::start_byte` meets its contract.
 use native.Mathlib.Omega.{arith}
 use Rattle.plan.proofs.StartBytes.{at_key, at_one, at_zeros, at_nonce, at_pistons, at_end}
-use borrow.Author.Rules.{rules}
 use Rattle.plan.proofs.start_byte.Goals as goal
 
 pub returns-then-at-key : goal.returns-then-at-key

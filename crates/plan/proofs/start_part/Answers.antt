@@ -1,9 +1,8 @@
 -- The proof that `plan::start_part` meets its contract.
 use mathlib.Core.Path.{◌≡◌, ◌∙◌}
-use mathlib.Core.List.{◌++◌, append-nil}
-use Prim.Native.Nat.{◌-◌, ◌≤◌}
+use mathlib.Core.List.{append-nil}
 use native.Mathlib.Omega.{arith}
-use lib.ListN.{length, take, drop, length-set, drop_of_length-le}
+use lib.ListN.{length, length-set, drop_of_length-le}
 use Rattle.plan.specs.Start.{start_bytes}
 use Rattle.plan.proofs.StartBytes.{start_length, stretch_more}
 use borrow.Author.Rules.{rules}

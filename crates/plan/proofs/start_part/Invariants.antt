@@ -1,12 +1,9 @@
 -- The proof that `plan::start_part` meets its contract.
-use mathlib.Core.Path.{◌≡◌, ◌∙◌}
-use mathlib.Core.List.{◌++◌, append-nil}
+use mathlib.Core.Path.{◌≡◌}
+use mathlib.Core.List.{◌++◌}
 use Prim.Native.Nat.{◌-◌, ◌≤◌}
-use native.Mathlib.Omega.{arith}
-use lib.ListN.{length, take, drop, length-set, drop_of_length-le}
+use lib.ListN.{length, take, drop}
 use Rattle.plan.specs.Start.{start_bytes}
-use Rattle.plan.proofs.StartBytes.{start_length, stretch_more}
-use borrow.Author.Rules.{rules}
 use Rattle.plan.proofs.start_part.Given as goal
 
 abbrev pub invariant-loop-j : goal.invariant-loop-j

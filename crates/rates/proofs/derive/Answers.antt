@@ -1,5 +1,4 @@
 -- `derive` meets its contract: each step is the definition's.
-use borrow.Author.Rules.{rules}
 use Rattle.motorist.specs.Instance.{text_rate, full_rate, pack_length, chain_length}
 use Rattle.rates.proofs.derive.Goals as goal
 

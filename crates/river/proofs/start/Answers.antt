@@ -4,7 +4,6 @@ use Rattle.motorist.specs.Instance.{river}
 use Rattle.motorist.specs.Keyak.{river_f}
 use Rattle.calls.proofs.Meets.{start_allowed, start_refused, start_done}
 use Rattle.river.specs.River.{records}
-use borrow.Author.Rules.{rules}
 use Rattle.river.proofs.start.Goals as goal
 
 pub begin-requires : goal.begin-requires

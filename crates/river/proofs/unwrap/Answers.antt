@@ -4,7 +4,6 @@ use Rattle.motorist.specs.Instance.{river}
 use Rattle.motorist.specs.Keyak.{river_f}
 use Rattle.calls.proofs.Meets.{message_allowed, unwrap-refused, unwrap_done}
 use Rattle.river.specs.River.{records}
-use borrow.Author.Rules.{rules}
 use Rattle.river.proofs.unwrap.Goals as goal
 
 pub unseal-requires : goal.unseal-requires

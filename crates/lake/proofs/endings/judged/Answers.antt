@@ -1,6 +1,5 @@
 -- The proof that `lake::endings::judged` meets its contract.
 use mathlib.Core.Path.{refl}
-use borrow.Author.Rules.{rules}
 use Rattle.lake.proofs.endings.judged.Goals as goal
 
 pub returns-then-right : goal.returns-then-right

@@ -1,6 +1,5 @@
 -- The proof that `lake::endings::refused` meets its contract.
 use mathlib.Core.Path.{refl}
-use borrow.Author.Rules.{rules}
 use Rattle.lake.proofs.endings.refused.Goals as goal
 
 pub returns : goal.returns

@@ -1,5 +1,4 @@
 -- The proof that `lake::tags::give_tag` meets its contract.
-use borrow.Author.Rules.{rules}
 use Rattle.lake.proofs.tags.give_tag.Goals as goal
 
 pub returns : goal.returns

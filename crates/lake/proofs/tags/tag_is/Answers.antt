@@ -1,5 +1,4 @@
 -- The proof that `lake::tags::tag_is` meets its contract.
-use borrow.Author.Rules.{rules}
 use Rattle.lake.proofs.tags.tag_is.Goals as goal
 
 pub returns : goal.returns

@@ -2,7 +2,6 @@
 use mathlib.Core.Path.{refl, ◌∙◌}
 use Rattle.calls.proofs.Meets.{begun_untagged, begun_produced, begun-checked}
 use Rattle.lake.specs.Lake.{records}
-use borrow.Author.Rules.{rules}
 use Rattle.lake.proofs.work.begin.Goals as goal
 
 pub give_tag-requires : goal.give_tag-requires

@@ -4,7 +4,6 @@ use Rattle.motorist.specs.Instance.{lake}
 use Rattle.motorist.proofs.Instances.{lake_sound}
 use Rattle.calls.proofs.Meets.{text_fits_lem, text_lane, wrapped_is}
 use Rattle.lake.specs.Lake.{records}
-use borrow.Author.Rules.{rules}
 use Rattle.lake.proofs.work.seal.Goals as goal
 
 pub of_message-ran-requires : goal.of_message-ran-requires

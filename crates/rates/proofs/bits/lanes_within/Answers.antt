@@ -1,5 +1,4 @@
 -- `lanes_within` meets its contract: the multiple is no larger than n, so it fits.
-use borrow.Author.Rules.{rules}
 use native.Mathlib.Omega.{arith}
 use native.Mathlib.Nat.{div-mul-le_self}
 use Rattle.rates.proofs.bits.lanes_within.Goals as goal

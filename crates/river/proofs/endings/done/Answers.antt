@@ -1,6 +1,5 @@
 -- The proof that `river::endings::done` meets its contract.
 use mathlib.Core.Path.{refl}
-use borrow.Author.Rules.{rules}
 use Rattle.river.proofs.endings.done.Goals as goal
 
 pub returns : goal.returns

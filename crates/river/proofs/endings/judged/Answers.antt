@@ -1,6 +1,5 @@
 -- The proof that `river::endings::judged` meets its contract.
 use mathlib.Core.Path.{refl}
-use borrow.Author.Rules.{rules}
 use Rattle.river.proofs.endings.judged.Goals as goal
 
 pub returns-then-right : goal.returns-then-right

@@ -1,6 +1,5 @@
 -- The proof that `river::endings::refused` meets its contract.
 use mathlib.Core.Path.{refl}
-use borrow.Author.Rules.{rules}
 use Rattle.river.proofs.endings.refused.Goals as goal
 
 pub returns : goal.returns

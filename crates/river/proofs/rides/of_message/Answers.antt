@@ -1,5 +1,4 @@
 -- The proof that `river::rides::of_message` meets its contract.
-use borrow.Author.Rules.{rules}
 use Rattle.river.proofs.rides.of_message.Goals as goal
 
 pub returns : goal.returns

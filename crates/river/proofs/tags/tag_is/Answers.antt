@@ -1,5 +1,4 @@
 -- The proof that `river::tags::tag_is` meets its contract.
-use borrow.Author.Rules.{rules}
 use Rattle.river.proofs.tags.tag_is.Goals as goal
 
 pub returns : goal.returns

@@ -4,7 +4,6 @@ use Rattle.motorist.specs.Instance.{river}
 use Rattle.motorist.proofs.Instances.{river_sound}
 use Rattle.calls.proofs.Meets.{text_fits_lem, text_lane, wrapped_is}
 use Rattle.river.specs.River.{records}
-use borrow.Author.Rules.{rules}
 use Rattle.river.proofs.work.seal.Goals as goal
 
 pub of_message-ran-requires : goal.of_message-ran-requires

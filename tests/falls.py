@@ -1,29 +1,31 @@
 """Where the must-fail edits fall. The second line of an edit is `falls: PLACE FACT`. PLACE is a function with its modules, as `lake::wrap`, or the file
-of a law, as `calls/proofs/Story.antt`; FACT is what is not proved there, a need of the function (`returns`, `loop-again`) or the law. Once rt has tried
-the edits, this reads what the check said of each, target/must-fail/CRATE/LABEL/.log. Its first error must be that fact, and not a name or a need that is
-missing, and every function that the edit adds must be proved. An error that only follows from another one is passed over: what names a law that was
-refused, and a function that calls one that is not proved. Of the edit itself: it changes code or a definition (src/ or specs/, comments aside), the fact
-stands in the unedited crate, and the edit leaves the proof of that fact as it is: the proof file of the function, or the lines of the law from its
-signature on, not the rest of its file. Whether a changed proof is right for harmless code cannot be told from a log: MENDED lists these edits with why.
-python3 tests/falls.py [NAME...], with names for the edits of those crates and of what they stand on, says of each edit where it falls, and leaves with 1
-where that is not what it names."""
+of a law, as `calls/proofs/Story.antt`; FACT is what is not proved there, a goal of the function (`returns`, `loop-i-preserved`) or the law. Once rt has
+tried the edits, this reads what rt said of each: the first error that the check came to, but for proofs that only name what the edit took away. It must
+be that fact. And every function that the edit adds must be proved: of such an edit the added functions are checked here, alone. (What follows from another
+error comes behind it: a function is told after those that it calls, a law after those that it cites.) Of the edit itself: it changes code or a definition
+(src/ or specs/, comments aside), the fact stands in the unedited crate, and the edit leaves the proof of that fact as it is: the answers and invariants
+of the function, or the lines of the law from its signature on, not the rest of its file. Whether a changed proof is right for harmless code cannot be
+told from what rt says: MENDED lists these edits with why.
+python3 tests/falls.py SAID [NAME...], SAID the file of what `rt ci` or `rt must-fail` said, with names for the edits of those crates and of what they
+stand on, says of each edit where it falls, and leaves with 1 where that is not what it names."""
+import concurrent.futures
 import pathlib
 import re
+import shutil
+import subprocess
 import sys
+import tempfile
 
-ERROR = re.compile(r"\S+?/must-fail/\w+/[^/\s]+/(?P<file>[^:\s]+):\d+:\d+: error: (?:`(?P<fact>[^`]+)`: )?(?P<words>.*)")
-UNPROVED = re.compile(r"fn (?P<function>\S+): no proof: expected `[^`]+` in [^;]+; `search` does not close `(?P<fact>[^`]+)`")
-CALLS = re.compile(r"fn \S+: (?:not proved|no proof: expected `[^`]+` in [^;]+); it calls [^;]+, which (?:is|are) not proved")
-UNREAD = re.compile(r"\w+ \S+: (?:no proof|not proved)|(?:\S+:\d+: )?error\b")
-FOLLOWS = "was not admitted (it has holes or undetermined implicits, or was rejected), so this cannot be checked"
-NEED = r"has no `Need-[^`]*` that can be named from here|expected type `tie\.Need-[^`]*`, but this has type `tie\.Need-"
-NAME = r"is not in scope|that can be named from here|has no field `|no module is found by|exports no such name"
+import edits
+
+TOLD = re.compile(r"(?:rt: )?must-fail (\w+)/(\S+)\.edit: (.*)")
+REFUSED = "refused, as it must be: "
+ERROR = re.compile(r"(?:\./)?(?P<file>[^:\s]+):\d+:\d+: error: (?:`(?P<fact>[^`]+)`: )?(?P<words>.*)")
+UNPROVED = re.compile(r"note: (?:\./)?(?P<file>src/[^:\s]+):(?P<line>\d+):(?P<column>\d+): .*?(?:not proved|not shown) that .*?\(`(?P<fact>[^`]+)`\)")
+NAME = r"is not in scope|that can be named from here|has no field `|no module is found by|exports no such name|was not admitted"
+PROOFS = ("Answers.antt", "Invariants.antt", "Proof.antt")
 # The edits that change the proof of the very fact that they name, each with how that proof was seen to be right.
-HARMLESS = "with a helper that leaves the tag alone, the same proof text was seen to be proved"
-MENDED = {
-    "lake/refused-wrap-writes": HARMLESS,
-    "river/refused-start-writes": HARMLESS,
-}
+MENDED = {}
 
 
 def code(folder):
@@ -32,23 +34,41 @@ def code(folder):
     return {file.relative_to(folder): re.sub(r"(//|--).*", "", file.read_text()).split() for file in files}
 
 
-def functions(crate, folder):
-    """The functions of a crate's folder, as the log names them: with the crate and the module."""
-    for file in folder.glob("src/**/*.rt"):
+def blanked(text):
+    """The text with its comments as blanks, every place as it was."""
+    return re.sub(r"//[^\n]*|/\*.*?\*/", lambda found: re.sub(r"[^\n]", " ", found[0]), text, flags=re.DOTALL)
+
+
+def begun(folder):
+    """Each function of a crate's folder: its file, where it begins there, and its name below the crate."""
+    for file in sorted(folder.glob("src/**/*.rt")):
         inside = file.relative_to(folder / "src").with_suffix("").parts
         modules = [part for part in inside if part not in ("lib", "main", "mod")]
-        for name in re.findall(r"\bfn\s+(\w+)\s*[(<]", re.sub(r"//.*", "", file.read_text())):
-            yield "::".join([crate, *modules, name])
+        for found in re.finditer(r"\b(?:pub\s+)?fn\s+(\w+)\s*[(<]", blanked(file.read_text())):
+            yield file.relative_to(folder).as_posix(), found.start(), "::".join([*modules, found[1]])
+
+
+def functions(crate, folder):
+    """The functions of a crate's folder, as the check names them: with the crate and the module."""
+    return [f"{crate}::{name}" for _, _, name in begun(folder)]
 
 
 def place(crate, file):
-    """The function whose proof file it is, or the file of a law."""
-    function = re.fullmatch(r"proofs/(.+)/Proof\.antt", file)
+    """The function whose proof it is, or the file of a law."""
+    function = re.fullmatch(rf"proofs/(.+)/(?:{'|'.join(PROOFS)})", file)
     return "::".join([crate, *function[1].split("/")]) if function else f"{crate}/{file}"
 
 
+def around(crate, folder, file, line, column):
+    """The function in which a place of a source file lies."""
+    lines = (folder / file).read_text().split("\n")
+    at = sum(len(it) + 1 for it in lines[:line - 1]) + column - 1
+    before = [name for where, start, name in begun(folder) if where == file and start <= at]
+    return f"{crate}::{before[-1]}" if before else None
+
+
 def declaration(lines, name):
-    """The lines of a law or a need: what begins with its name, and what follows up to a line behind an empty one that is indented no deeper. None where
+    """The lines of a law or a goal: what begins with its name, and what follows up to a line behind an empty one that is indented no deeper. None where
     it has no signature."""
     begins = re.compile(rf"\s*(?:(?:pub|abbrev|unfoldable) )*{re.escape(name)} (?P<signature>(?:\{{[^}}]*\}} )*: )?")
     kept, signed, inside, depth, gap = [], False, False, 0, False
@@ -56,10 +76,10 @@ def declaration(lines, name):
         if not line.strip():
             gap = True
             continue
-        indent, begun = len(line) - len(line.lstrip()), begins.match(line)
-        if begun:
+        indent, starts = len(line) - len(line.lstrip()), begins.match(line)
+        if starts:
             inside, depth = True, min(depth, indent) if inside else indent
-            signed = signed or bool(begun["signature"])
+            signed = signed or bool(starts["signature"])
         elif gap and indent <= depth:
             inside = False
         gap = False
@@ -69,47 +89,57 @@ def declaration(lines, name):
 
 
 def proof(folder, where, fact):
-    """The lines that prove a fact in a crate's folder: of a law its own, of a function its proof file. None where there are none."""
-    inside = f"proofs/{'/'.join(where.split('::')[1:])}/Proof.antt" if "::" in where else where.split("/", 1)[1]
-    lines = (folder / inside).read_text().splitlines() if (folder / inside).exists() else None
-    return lines if "::" in where or lines is None else declaration(lines, fact)
+    """The lines that prove a fact in a crate's folder: of a law its own, of a function its answers and invariants. None where there are none."""
+    if "::" not in where:
+        file = folder / where.split("/", 1)[1]
+        return declaration(file.read_text().splitlines(), fact) if file.is_file() else None
+    files = [folder / "proofs" / "/".join(where.split("::")[1:]) / file for file in PROOFS]
+    lines = [(file.name, file.read_text().splitlines()) for file in files if file.is_file()]
+    return lines or None
 
 
-def stands(crate, folder, where, fact):
-    """Whether a crate's folder has the fact: the law in its file, or the function, with the need in its proof file where there is one."""
-    lines = proof(folder, where, fact)
-    if "::" in where:
-        return where in functions(crate, folder) and (lines is None or declaration(lines, fact) is not None)
-    return lines is not None
+def goals(root, crate, function):
+    """The goals that the check makes of a function of the unedited crate, answered or not."""
+    with tempfile.TemporaryDirectory() as made:
+        subprocess.run(["rt", "check", "--start", function, "--generated", made], cwd=root / "crates" / crate, capture_output=True, check=False)
+        file = pathlib.Path(made) / f"Rattle-{crate}-proofs" / "/".join(function.split("::")[1:]) / "AnswersOffered.antt"
+        return re.findall(r"^pub (\S+) : ", file.read_text(), re.MULTILINE) if file.is_file() else []
 
 
-def first_error(crate, lines):
-    """The first error that does not follow from another one: its place, its fact, and what is wrong with it where it is no fact."""
-    for at, line in enumerate(lines):
-        made, error = UNPROVED.match(line), ERROR.match(line)
-        if made:
-            return made["function"], made["fact"], None, line
-        if error and FOLLOWS not in line:
-            where, fact = place(crate, error["file"]), error["fact"]
-            words = error["words"] + "".join(line for line in lines[at + 1:at + 2] if line.startswith("  "))
-            if re.search(NEED, words) or (fact or "").endswith("-spec") and "::" in where:
-                return where, fact, "a need is missing: the proof file does not fit the code", line
-            if re.search(NAME, words):
-                return where, fact, "a name is missing", line
-            if not fact or error["file"].startswith("src/"):
-                return where, fact, "no fact: the text is not read", line
-            return where, fact, None, line
-        if not error and UNREAD.match(line) and not CALLS.fullmatch(line):
-            return None, None, "no fact: a line that is not understood", line
-    return None, None, "no error", ""
+def stands(root, crate, where, fact):
+    """Whether the unedited crate has the fact: the law in its file, or the function, with the goal among its answers, or else among those that are found."""
+    folder = root / "crates" / crate
+    answers = proof(folder, where, fact)
+    if "::" not in where:
+        return answers is not None
+    if where not in functions(crate, folder):
+        return False
+    return any(declaration(lines, fact) is not None for _, lines in answers or []) or fact in goals(root, crate, where)
 
 
-def wrong_fact(root, crate, label, where, fact):
+def first_error(crate, folder, words):
+    """The first error: its place, its fact, and what is wrong with it where it is no fact."""
+    if not words.startswith(REFUSED):
+        return None, None, "it is not refused at a fact"
+    line = words.removeprefix(REFUSED)
+    made, error = UNPROVED.match(line), ERROR.match(line)
+    if made:
+        return around(crate, folder, made["file"], int(made["line"]), int(made["column"])), made["fact"], None
+    if not error:
+        return None, None, "no fact: a line that is not understood"
+    where, fact = place(crate, error["file"]), error["fact"]
+    if re.search(NAME, error["words"]):
+        return where, fact, "a name is missing"
+    if not fact or error["file"].startswith("src/"):
+        return where, fact, "no fact: the text is not read"
+    return where, fact, None
+
+
+def wrong_fact(root, folder, crate, label, where, fact):
     """What is wrong with the fact that an edit names, if anything: it is the edit's own, or its proof is."""
-    before = root / "crates" / crate
-    if not stands(crate, before, where, fact):
+    if not stands(root, crate, where, fact):
         return f"{where} {fact} does not stand in the unedited crate"
-    changed = proof(before, where, fact) != proof(root / "target/must-fail" / crate / label, where, fact)
+    changed = proof(root / "crates" / crate, where, fact) != proof(folder, where, fact)
     listed = f"{crate}/{label}" in MENDED
     if changed and not listed:
         return f"it changes the proof of {where} {fact}, which it names, and is not listed with how that proof was seen to be right"
@@ -118,34 +148,65 @@ def wrong_fact(root, crate, label, where, fact):
     return None
 
 
-def judge(root, crate, label):
+def unproved(root, folder, added):
+    """Which of the functions that an edit adds to the crate in the folder are not proved, by a check of each in a copy of the repository."""
+    if not added:
+        return []
+    with tempfile.TemporaryDirectory() as room:
+        copy = pathlib.Path(room)
+        (copy / "crates").mkdir()
+        for file in root.glob("*"):
+            if file.name == "crates.txt" or file.name == "HANDLES":
+                shutil.copy(file, copy)
+        for crate in sorted((root / "crates").iterdir()):
+            for part in ("src", "specs", "proofs", "out/rlib"):
+                if (crate / part).is_dir():
+                    shutil.copytree(crate / part, copy / "crates" / crate.name / part)
+        to = copy / "crates" / folder.name
+        for part in ("src", "specs", "proofs"):
+            shutil.rmtree(to / part, ignore_errors=True)
+            if (folder / part).is_dir():
+                shutil.copytree(folder / part, to / part)
+        return [name for name in added if subprocess.run(["rt", "check", "--only", name], cwd=to, capture_output=True, check=False).returncode]
+
+
+def judge(root, crate, label, said):
     """Whether the edit falls at the fact that it names, and a line that says where it falls."""
-    folder = root / "target/must-fail" / crate / label
-    second = (root / "crates" / crate / "must-fail" / f"{label}.edit").read_text().splitlines()[1:2]
-    named = re.fullmatch(r"falls: (\S+ \S+)", "".join(second))
+    before, edit = root / "crates" / crate, root / "crates" / crate / "must-fail" / f"{label}.edit"
+    named = re.fullmatch(r"falls: (\S+ \S+)", "".join(edit.read_text().splitlines()[1:2]))
     if not named:
         return False, "its second line is not `falls: PLACE FACT`"
-    if not (folder / ".log").exists():
-        return False, "it has no log: it was not tried"
-    if code(folder) == code(root / "crates" / crate):
-        return False, "it changes nothing under src/ or specs/"
-    lines = (folder / ".log").read_text(errors="replace").splitlines()
-    logged = {line.split(": ")[0].removeprefix("fn ") for line in lines if line.startswith("fn ")}
-    added = logged.union(functions(crate, folder)) - set(functions(crate, root / "crates" / crate))
-    unproved = sorted(name for name in added if f"fn {name}: proved" not in lines)
-    if unproved:
-        return False, f"a function of its own is not proved: {', '.join(unproved)}"
-    where, fact, wrong, line = first_error(crate, lines)
-    if wrong or f"{where} {fact}" != named[1]:
-        return False, f"{wrong or f'it falls at {where} {fact}'}, and names {named[1]}; the first error: {line[:400]}"
-    wrong, why = wrong_fact(root, crate, label, where, fact), MENDED.get(f"{crate}/{label}")
-    return not wrong, wrong or f"falls at {where} {fact}, as it names" + (f" (it changes that proof: {why})" if why else "")
+    if f"{crate}/{label}" not in said:
+        return False, "rt said nothing of it: it was not tried"
+    words = said[f"{crate}/{label}"]
+    texts, why = edits.edited(edit, before)
+    if why:
+        return False, f"it cannot be made: {why}"
+    with tempfile.TemporaryDirectory() as room:
+        folder = pathlib.Path(room) / crate
+        for part in ("src", "specs", "proofs"):
+            if (before / part).is_dir():
+                shutil.copytree(before / part, folder / part)
+        for file, text in texts.items():
+            (folder / file).write_text(text)
+        if code(folder) == code(before):
+            return False, "it changes nothing under src/ or specs/"
+        where, fact, wrong = first_error(crate, folder, words)
+        if wrong or f"{where} {fact}" != named[1]:
+            return False, f"{wrong or f'it falls at {where} {fact}'}, and names {named[1]}; rt said: {words[:400]}"
+        wrong, why = wrong_fact(root, folder, crate, label, where, fact), MENDED.get(f"{crate}/{label}")
+        if wrong:
+            return False, wrong
+        bare = unproved(root, folder, sorted(set(functions(crate, folder)) - set(functions(crate, before))))
+        if bare:
+            return False, f"a function of its own is not proved: {', '.join(bare)}"
+        return True, f"falls at {where} {fact}, as it names" + (f" (it changes that proof: {why})" if why else "")
 
 
 def crates(root, names):
     """The crates of crates.txt that are asked for, with what they stand on; without names all."""
     lines = [line.split("#")[0].split(":") for line in (root / "crates.txt").read_text().splitlines()]
-    stands_on = {line[0].strip(): line[1].split() for line in lines if len(line) == 2}
+    stands_on = {line[0].split()[0]: line[1].split() for line in lines if len(line) == 2}
     asked = set(names or stands_on)
     while more := {on for name in asked for on in stands_on.get(name, []) if on in stands_on} - asked:
         asked |= more
@@ -153,13 +214,14 @@ def crates(root, names):
 
 
 def main():
-    root, wrong, count = pathlib.Path("."), 0, 0
-    for crate in crates(root, sys.argv[1:]):
-        for edit in sorted((root / "crates" / crate / "must-fail").glob("*.edit")):
-            right, words = judge(root, crate, edit.stem)
-            print(f"must-fail {crate}/{edit.stem}: {words if right else f'NOT AS NAMED: {words}'}")
-            count, wrong = count + 1, wrong + (not right)
-    print(f"{count - wrong} of {count} edits fall at the fact that they name")
+    root, wrong = pathlib.Path("."), 0
+    said = {f"{found[1]}/{found[2]}": found[3] for line in pathlib.Path(sys.argv[1]).read_text(errors="replace").splitlines() if (found := TOLD.match(line))}
+    tried = [(crate, edit.stem) for crate in crates(root, sys.argv[2:]) for edit in sorted((root / "crates" / crate / "must-fail").glob("*.edit"))]
+    with concurrent.futures.ThreadPoolExecutor() as pool:
+        for (crate, label), (right, words) in zip(tried, pool.map(lambda it: judge(root, *it, said), tried)):
+            print(f"must-fail {crate}/{label}: {words if right else f'NOT AS NAMED: {words}'}", flush=True)
+            wrong += not right
+    print(f"{len(tried) - wrong} of {len(tried)} edits fall at the fact that they name")
     sys.exit(1 if wrong else 0)
 
 

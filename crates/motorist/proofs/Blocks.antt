@@ -1,5 +1,5 @@
--- The laws of a block: its length, that its bytes are below 256, every byte of it as 01 lists them, and its text and metadata read back.
-use Prim.Native.Nat.{ℕ, zero, suc, ◌+◌, ◌-◌, ◌^◌, ◌≤◌, ◌<◌}
+-- The laws of a block: every byte of it as 01 lists them, and its text and metadata read back. (Its length, and that its bytes are below 256: Front.antt.)
+use Prim.Native.Nat.{ℕ, zero, suc, ◌+◌, ◌-◌, ◌≤◌, ◌<◌}
 use mathlib.Core.Path.{◌≡◌, refl, sym, ap, ◌∙◌}
 use mathlib.Core.List.{[], ◌∷◌, ◌++◌, append_assoc}
 use mathlib.Core.Logic.{◌⊎◌, inl, inr}
@@ -7,13 +7,10 @@ use native.Mathlib.Omega.{arith}
 use native.Mathlib.Nat.{add-zero}
 use lib.ListN.{length, get_or, replicate, length-append, length-replicate, get_or-append, get_or-eq_default}
 use lib.Seq.{slice, get_or-append-add, take_at, drop_at, drop-nil}
-use Rattle.endian.specs.Small.{Small}
-use Rattle.endian.proofs.Small.{small_append}
 use Rattle.motorist.specs.Instance.{Instance, Sound, state_length, full_rate}
 use Rattle.motorist.specs.Piston.{Bytes, pad, crypt_end, laid, block, eom_of, crypt_end_of, inject_start_of, inject_end_of, text_of, meta_of}
 use Rattle.motorist.specs.Shape.{Fit}
-use Rattle.motorist.proofs.KeyPack.{length_pad}
-use Rattle.motorist.proofs.Small.{small_four, small_pad, small_laid}
+use Rattle.motorist.proofs.Front.{before_meta, before_offsets, four, length_before, length_front}
 
 -- ---- bytes of strings that are padded, laid and joined; behind its end a string has zeros
 zeros_at : (n k : ℕ) → ◌≡◌ {A = ℕ} (get_or (replicate n 0) k 0) 0
@@ -31,10 +28,6 @@ pad_at n l k = go (n - length l) l k
 
 behind_at : (p q : Bytes) (n k : ℕ) → length p ≡ n → get_or (p ++ q) (n + k) 0 ≡ get_or q k 0
 behind_at p q n k e = rw (← e) (get_or-append-add p q k 0)
-
-pub length-laid : (at : ℕ) (t : Bytes) → length (laid at t) ≡ crypt_end at (length t)
-length-laid at [] = refl
-length-laid at (x ∷ t) = simp (length-append, length-replicate)
 
 laid_before : (at : ℕ) (t : Bytes) (k : ℕ) → k < at → get_or (laid at t) k 0 ≡ 0
 laid_before at [] k h = refl
@@ -56,50 +49,37 @@ slice_text p t a m b c d n e = simp append_assoc (slice_mid p t _ n _ e refl)
 
 module _ (i : Instance) (ok : Sound i) (at : ℕ) (t : Bytes) (from : ℕ) (m : Bytes) (e : ℕ) (fit : Fit i at (length t) from (length m)) where
   abbrev offsets : Bytes
-  offsets = e ∷ crypt_end at (length t) ∷ from ∷ (from + length m) ∷ []
+  offsets = four at t from m e
 
-  -- the bytes before the metadata, and before the offsets
   abbrev before : Bytes
-  before = pad from (laid at t)
+  before = before_meta at t from
 
   abbrev front : Bytes
-  front = pad (full_rate i) (before ++ m)
+  front = before_offsets i at t from m
 
-  length_before : length before ≡ from
-  length_before = length_pad from (laid at t) (rw length-laid fit.text_fits)
+  before_long : length before ≡ from
+  before_long = length_before i ok at t from m e fit
 
-  length_front : length front ≡ full_rate i
-  length_front = length_pad (full_rate i) (before ++ m) (rw (length-append, length_before) fit.meta_fits)
-
-  pub block-length : length (block i at t from m e) ≡ state_length i
-  unfolding block
-  block-length = length_pad (state_length i) (front ++ offsets) (rw (length-append front offsets, length_front) ok.offsets_fit)
-
-  pub block_small : Small t → Small m → e < 2 ^ 8 → Small (block i at t from m e)
-  unfolding block
-  block_small ht hm he =
-      small_pad (state_length i) (front ++ offsets)
-      (small_append front offsets (small_pad (full_rate i) (before ++ m) (small_append before m (small_pad from (laid at t) (small_laid at t ht)) hm))
-      (small_four e (crypt_end at (length t)) from (from + length m) he
-      (omega (arith, fit.text_fits, fit.meta_fits, ok.offsets_small)) (omega (arith, fit.meta_fits, ok.offsets_small)) (omega (arith, fit.meta_fits, ok.offsets_small))))
+  front_long : length front ≡ full_rate i
+  front_long = length_front i ok at t from m e fit
 
   -- ---- every byte: the four offsets and zeros behind them, the metadata and zeros behind it, and before it the text between zeros
   pub block-offset : (k : ℕ) → get_or (block i at t from m e) (full_rate i + k) 0 ≡ get_or offsets k 0
   unfolding block
-  block-offset k = pad_at (state_length i) (front ++ offsets) (full_rate i + k) ∙ behind_at front offsets (full_rate i) k length_front
+  block-offset k = pad_at (state_length i) (front ++ offsets) (full_rate i + k) ∙ behind_at front offsets (full_rate i) k front_long
 
   front_at : (k : ℕ) → k < full_rate i → get_or (block i at t from m e) k 0 ≡ get_or (before ++ m) k 0
   unfolding block
   front_at k h =
       pad_at (state_length i) (front ++ offsets) k
-      ∙ get_or-append front offsets 0 k (rw length_front h)
+      ∙ get_or-append front offsets 0 k (rw front_long h)
       ∙ pad_at (full_rate i) (before ++ m) k
 
   pub block_meta : (k : ℕ) → from + k < full_rate i → get_or (block i at t from m e) (from + k) 0 ≡ get_or m k 0
-  block_meta k h = front_at (from + k) h ∙ behind_at before m from k length_before
+  block_meta k h = front_at (from + k) h ∙ behind_at before m from k before_long
 
   before_at : (k : ℕ) → k < from → get_or (block i at t from m e) k 0 ≡ get_or (laid at t) k 0
-  before_at k h = front_at k (omega (arith, fit.meta_fits)) ∙ get_or-append before m 0 k (rw length_before h) ∙ pad_at from (laid at t) k
+  before_at k h = front_at k (omega (arith, fit.meta_fits)) ∙ get_or-append before m 0 k (rw before_long h) ∙ pad_at from (laid at t) k
 
   pub block_text : (k : ℕ) → at + k < from → get_or (block i at t from m e) (at + k) 0 ≡ get_or t k 0
   block_text k h = before_at (at + k) h ∙ laid_text at t k
@@ -139,7 +119,7 @@ module _ (i : Instance) (ok : Sound i) (at : ℕ) (t : Bytes) (from : ℕ) (m : 
 
   pub meta_back : meta_of i (block i at t from m e) ≡ m
   unfolding block
-  meta_back = rw (inject_start_back, inject_end_back) (slice_meta before m _ _ _ from length_before)
+  meta_back = rw (inject_start_back, inject_end_back) (slice_meta before m _ _ _ from before_long)
 
 pub text_back : (i : Instance) → Sound i → (at : ℕ) (t : Bytes) (from : ℕ) (m : Bytes) (e : ℕ) → Fit i at (length t) from (length m)
     → text_of i (block i at t from m e) at ≡ t

@@ -5,6 +5,7 @@ pub mod Xors
 pub mod Plans
 pub mod Rides
 pub mod Small
+pub mod Front
 pub mod Blocks
 pub mod Offsets
 pub mod KeyPack

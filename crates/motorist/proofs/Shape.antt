@@ -15,7 +15,8 @@ use Rattle.motorist.specs.Motorist.{Start, Message, taken, ends, chains, chain, 
 use Rattle.motorist.specs.Session.{Step, step, steps, session_blocks}
 use Rattle.motorist.specs.Shape.{Fit, Each, State, Keeps, Eom, Shaped, ShapedRound, SmallStart, SmallMessage}
 use Rattle.motorist.proofs.Plans.{eom_chain, alone_fits, taken_fits, goes_on_length, text_after_length, meta_after_length, Behind, behind, behind_less, inject_le, deal_fit, Planned, last, more, planned, Injected, final, further, injected}
-use Rattle.motorist.proofs.Blocks.{block-length, block_small, crypt_end_back}
+use Rattle.motorist.proofs.Front.{block-length, block_small}
+use Rattle.motorist.proofs.Blocks.{crypt_end_back}
 use Rattle.motorist.proofs.Xors.{length-xors}
 use Rattle.endian.specs.Small.{Small}
 use Rattle.endian.proofs.Small.{small_nil, small_cons, small_append, small_zeros, small_take, small_drop}

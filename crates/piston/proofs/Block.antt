@@ -7,7 +7,7 @@ use lib.ListN.{length, length-append}
 use Rattle.motorist.specs.Instance.{Instance, state_length, full_rate}
 use Rattle.motorist.specs.Piston.{Bytes, xors, pad, laid, crypt_end, block}
 use Rattle.motorist.proofs.KeyPack.{length_pad}
-use Rattle.motorist.proofs.Blocks.{length-laid}
+use Rattle.motorist.proofs.Front.{length-laid}
 use Rattle.piston.specs.Placed.{placed}
 use Rattle.piston.proofs.Xors.{xors_end, xors_behind, xors-laid}
 

@@ -1,5 +1,6 @@
 // The permutation, and the calls of Lake and River, over and over from C, to be timed. Serves bench/run; no public call.
 #![tactic(auto)]
+
 pub mod over_lake;
 pub mod over_river;
 

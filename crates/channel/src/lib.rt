@@ -1,5 +1,6 @@
 // Packets sealed and opened with Lake or River. Serves the main job.
 #![tactic(auto)]
+
 mod either;
 mod sealed;
 

@@ -1,5 +1,6 @@
 // A word as a decimal number: digits alone, at least one. Serves the programs that read text; no public call.
 #![tactic(auto)]
+
 ghost use Rattle.std.specs.Prelude.{◌≤◌};
 
 // What a word tells: whether it is digits alone, whether their number is within the limit, and that number, or the limit.

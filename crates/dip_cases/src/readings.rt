@@ -1,6 +1,7 @@
 // Readings: cases of both calls, with the index that is answered, and what has to stand in the lent run and in the lent bytes after each.
 use crate::group;
 use dip::ReadingsAnswer;
+use std::io;
 use trials::tally::Tally;
 
 // A number past the count, which is no reading.
@@ -29,27 +30,29 @@ fn same_run(a: &[i32], b: &[i32]) -> bool {
 }
 
 fn read(
+    rt: &impl Print,
     t: Tally,
     count: usize,
     bytes: &[u8],
     into: &mut [i32],
     then: &[i32],
     expected: ReadingsAnswer,
-) -> Tally {
+) -> io::Result<Tally> {
     let answer = dip::read_readings(count, bytes, into);
-    group::answer(t, answer, expected, same_run(into, then))
+    group::answer(rt, t, answer, expected, same_run(into, then))
 }
 
 fn wrote(
+    rt: &impl Print,
     t: Tally,
     count: usize,
     from: &[i32],
     bytes: &mut [u8],
     then: &[u8],
     expected: ReadingsAnswer,
-) -> Tally {
+) -> io::Result<Tally> {
     let answer = dip::write_readings(count, from, bytes);
-    group::answer(t, answer, expected, slices::same(bytes, then))
+    group::answer(rt, t, answer, expected, slices::same(bytes, then))
 }
 
 // What a lent run and lent bytes hold afterwards: those expected where it is done, what they held where it is refused.
@@ -69,43 +72,67 @@ fn bytes_left(raw: [u8; 12], expected: ReadingsAnswer) -> [u8; 12] {
     }
 }
 
-fn read_three(t: Tally, raw: [u8; 12], run: [i32; 4], expected: ReadingsAnswer) -> Tally {
+fn read_three(
+    rt: &impl Print,
+    t: Tally,
+    raw: [u8; 12],
+    run: [i32; 4],
+    expected: ReadingsAnswer,
+) -> io::Result<Tally> {
     let mut into = [9, 9, 9, PAST];
     let then = run_left(run, expected);
-    read(t, 3, &raw, &mut into, &then, expected)
+    read(rt, t, 3, &raw, &mut into, &then, expected)
 }
 
-fn wrote_three(t: Tally, raw: [u8; 12], run: [i32; 4], expected: ReadingsAnswer) -> Tally {
+fn wrote_three(
+    rt: &impl Print,
+    t: Tally,
+    raw: [u8; 12],
+    run: [i32; 4],
+    expected: ReadingsAnswer,
+) -> io::Result<Tally> {
     let mut bytes = [0xaau8; 12];
     let then = bytes_left(raw, expected);
-    wrote(t, 3, &run, &mut bytes, &then, expected)
+    wrote(rt, t, 3, &run, &mut bytes, &then, expected)
 }
 
 // Three readings and their bytes, by both calls; the run has a fourth number, past the count, which is not looked at and stays.
-fn three(t: Tally, raw: [u8; 12], run: [i32; 4], expected: ReadingsAnswer) -> Tally {
-    let a = read_three(t, raw, run, expected);
-    wrote_three(a, raw, run, expected)
+fn three(
+    rt: &impl Print,
+    t: Tally,
+    raw: [u8; 12],
+    run: [i32; 4],
+    expected: ReadingsAnswer,
+) -> io::Result<Tally> {
+    let a = read_three(rt, t, raw, run, expected)?;
+    wrote_three(rt, a, raw, run, expected)
 }
 
 // A reading in the middle of three.
-fn level(t: Tally, z: i32, b: [u8; 4], expected: ReadingsAnswer) -> Tally {
+fn level(
+    rt: &impl Print,
+    t: Tally,
+    z: i32,
+    b: [u8; 4],
+    expected: ReadingsAnswer,
+) -> io::Result<Tally> {
     let raw = [1, 0, 0, 0, b[0], b[1], b[2], b[3], 0xff, 0xff, 0xff, 0xff];
-    three(t, raw, [1, z, -1, PAST], expected)
+    three(rt, t, raw, [1, z, -1, PAST], expected)
 }
 
-pub fn levels(t: Tally) -> Tally {
-    group::begin(b"reading");
-    let a = level(t, -2_000_001, [0x7f, 0x7b, 0xe1, 0xff], bad(1));
-    let b = level(a, -2_000_000, [0x80, 0x7b, 0xe1, 0xff], other(0));
-    let c = level(b, 0, [0, 0, 0, 0], other(0));
-    let d = level(c, 0x0001_0203, [3, 2, 1, 0], other(0));
-    let e = level(d, 2_000_000, [0x80, 0x84, 0x1e, 0x00], other(0));
-    let f = level(e, 2_000_001, [0x81, 0x84, 0x1e, 0x00], bad(1));
-    let g = level(f, 2_147_483_647, [0xff, 0xff, 0xff, 0x7f], bad(1));
-    let h = level(g, -2_147_483_648, [0, 0, 0, 0x80], other(0));
-    let i = level(h, -2_147_483_647, [1, 0, 0, 0x80], bad(1));
-    group::end();
-    i
+pub fn levels(rt: &impl Print, t: Tally) -> io::Result<Tally> {
+    group::begin(rt, b"reading")?;
+    let a = level(rt, t, -2_000_001, [0x7f, 0x7b, 0xe1, 0xff], bad(1))?;
+    let b = level(rt, a, -2_000_000, [0x80, 0x7b, 0xe1, 0xff], other(0))?;
+    let c = level(rt, b, 0, [0, 0, 0, 0], other(0))?;
+    let d = level(rt, c, 0x0001_0203, [3, 2, 1, 0], other(0))?;
+    let e = level(rt, d, 2_000_000, [0x80, 0x84, 0x1e, 0x00], other(0))?;
+    let f = level(rt, e, 2_000_001, [0x81, 0x84, 0x1e, 0x00], bad(1))?;
+    let g = level(rt, f, 2_147_483_647, [0xff, 0xff, 0xff, 0x7f], bad(1))?;
+    let h = level(rt, g, -2_147_483_648, [0, 0, 0, 0x80], other(0))?;
+    let i = level(rt, h, -2_147_483_647, [1, 0, 0, 0x80], bad(1))?;
+    group::end(rt)?;
+    Ok(i)
 }
 
 // A reading by its kind: 0 is in range, 1 above it, 2 below it, 3 missing.
@@ -127,7 +154,7 @@ fn bytes_of(kind: u8) -> [u8; 4] {
     }
 }
 
-fn kinds(t: Tally, k: [u8; 3], expected: ReadingsAnswer) -> Tally {
+fn kinds(rt: &impl Print, t: Tally, k: [u8; 3], expected: ReadingsAnswer) -> io::Result<Tally> {
     let a = bytes_of(k[0]);
     let b = bytes_of(k[1]);
     let c = bytes_of(k[2]);
@@ -135,38 +162,44 @@ fn kinds(t: Tally, k: [u8; 3], expected: ReadingsAnswer) -> Tally {
         a[0], a[1], a[2], a[3], b[0], b[1], b[2], b[3], c[0], c[1], c[2], c[3],
     ];
     let run = [number_of(k[0]), number_of(k[1]), number_of(k[2]), PAST];
-    three(t, raw, run, expected)
+    three(rt, t, raw, run, expected)
 }
 
 // First, last, two and all bad; a missing one before, behind and between bad ones.
-pub fn places(t: Tally) -> Tally {
-    group::begin(b"which reading is bad");
-    let a = kinds(t, [1, 0, 0], bad(0));
-    let b = kinds(a, [0, 0, 2], bad(2));
-    let c = kinds(b, [0, 1, 2], bad(1));
-    let d = kinds(c, [2, 0, 1], bad(0));
-    let e = kinds(d, [1, 1, 1], bad(0));
-    let f = kinds(e, [3, 1, 0], bad(1));
-    let g = kinds(f, [2, 3, 1], bad(0));
-    let h = kinds(g, [3, 3, 2], bad(2));
-    let i = kinds(h, [0, 3, 0], other(0));
-    let j = only(i, 2_000_001, bytes_of(1), bad(0));
-    let k = only(j, -2_000_001, bytes_of(2), bad(0));
-    let l = last_of_31(k);
-    group::end();
-    l
+pub fn places(rt: &impl Print, t: Tally) -> io::Result<Tally> {
+    group::begin(rt, b"which reading is bad")?;
+    let a = kinds(rt, t, [1, 0, 0], bad(0))?;
+    let b = kinds(rt, a, [0, 0, 2], bad(2))?;
+    let c = kinds(rt, b, [0, 1, 2], bad(1))?;
+    let d = kinds(rt, c, [2, 0, 1], bad(0))?;
+    let e = kinds(rt, d, [1, 1, 1], bad(0))?;
+    let f = kinds(rt, e, [3, 1, 0], bad(1))?;
+    let g = kinds(rt, f, [2, 3, 1], bad(0))?;
+    let h = kinds(rt, g, [3, 3, 2], bad(2))?;
+    let i = kinds(rt, h, [0, 3, 0], other(0))?;
+    let j = only(rt, i, 2_000_001, bytes_of(1), bad(0))?;
+    let k = only(rt, j, -2_000_001, bytes_of(2), bad(0))?;
+    let l = last_of_31(rt, k)?;
+    group::end(rt)?;
+    Ok(l)
 }
 
 // The only reading of a month.
-fn only(t: Tally, z: i32, raw: [u8; 4], expected: ReadingsAnswer) -> Tally {
+fn only(
+    rt: &impl Print,
+    t: Tally,
+    z: i32,
+    raw: [u8; 4],
+    expected: ReadingsAnswer,
+) -> io::Result<Tally> {
     let mut run = [5i32; 1];
     let mut bytes = [0xaau8; 4];
-    let a = read(t, 1, &raw, &mut run, &[5], expected);
-    wrote(a, 1, &[z], &mut bytes, &[0xaa; 4], expected)
+    let a = read(rt, t, 1, &raw, &mut run, &[5], expected)?;
+    wrote(rt, a, 1, &[z], &mut bytes, &[0xaa; 4], expected)
 }
 
 // The last of as many as a month may have.
-fn last_of_31(t: Tally) -> Tally {
+fn last_of_31(rt: &impl Print, t: Tally) -> io::Result<Tally> {
     let mut raw = [0u8; 124];
     raw[120] = 0x81;
     raw[121] = 0x84;
@@ -175,8 +208,8 @@ fn last_of_31(t: Tally) -> Tally {
     from[30] = 2_000_001;
     let mut run = [5i32; 31];
     let mut bytes = [0xaau8; 124];
-    let a = read(t, 31, &raw, &mut run, &[5; 31], bad(30));
-    wrote(a, 31, &from, &mut bytes, &[0xaa; 124], bad(30))
+    let a = read(rt, t, 31, &raw, &mut run, &[5; 31], bad(30))?;
+    wrote(rt, a, 31, &from, &mut bytes, &[0xaa; 124], bad(30))
 }
 
 // Both calls on the first `room` numbers and the first `size` bytes.
@@ -205,16 +238,31 @@ fn write_some(
 }
 
 // Refused for the sizes alone, though every reading is out of range: each call leaves what was lent, and the index is 0.
-fn read_refused(t: Tally, room: usize, count: usize, size: usize, expected: u8) -> Tally {
+fn read_refused(
+    rt: &impl Print,
+    t: Tally,
+    room: usize,
+    count: usize,
+    size: usize,
+    expected: u8,
+) -> io::Result<Tally> {
     let mut run = [5i32; 40];
     let answer = read_some(count, &[0xaa; 160], size, &mut run, room);
-    group::answer(t, answer, other(expected), same_run(&run, &[5; 40]))
+    group::answer(rt, t, answer, other(expected), same_run(&run, &[5; 40]))
 }
 
-fn write_refused(t: Tally, room: usize, count: usize, size: usize, expected: u8) -> Tally {
+fn write_refused(
+    rt: &impl Print,
+    t: Tally,
+    room: usize,
+    count: usize,
+    size: usize,
+    expected: u8,
+) -> io::Result<Tally> {
     let mut bytes = [0xaau8; 160];
     let answer = write_some(count, &[2_000_001; 40], room, &mut bytes, size);
     group::answer(
+        rt,
         t,
         answer,
         other(expected),
@@ -222,44 +270,51 @@ fn write_refused(t: Tally, room: usize, count: usize, size: usize, expected: u8)
     )
 }
 
-fn refused(t: Tally, room: usize, count: usize, size: usize, expected: u8) -> Tally {
-    let a = read_refused(t, room, count, size, expected);
-    write_refused(a, room, count, size, expected)
+fn refused(
+    rt: &impl Print,
+    t: Tally,
+    room: usize,
+    count: usize,
+    size: usize,
+    expected: u8,
+) -> io::Result<Tally> {
+    let a = read_refused(rt, t, room, count, size, expected)?;
+    write_refused(rt, a, room, count, size, expected)
 }
 
 // The last two counts are such that four times the count is no number of the machine; the last would be 4 there.
-pub fn sizes(t: Tally) -> Tally {
-    group::begin(b"run and count");
-    let a = refused(t, 30, 31, 124, 6);
-    let b = refused(a, 31, 32, 128, 6);
-    let c = refused(b, 32, 32, 128, 13);
-    let d = refused(c, 32, 32, 127, 13);
-    let e = refused(d, 0, 0xffff_ffff_ffff_ffff, 0, 6);
-    let f = refused(e, 1, 0x4000_0000_0000_0001, 4, 6);
-    group::end();
-    f
+pub fn sizes(rt: &impl Print, t: Tally) -> io::Result<Tally> {
+    group::begin(rt, b"run and count")?;
+    let a = refused(rt, t, 30, 31, 124, 6)?;
+    let b = refused(rt, a, 31, 32, 128, 6)?;
+    let c = refused(rt, b, 32, 32, 128, 13)?;
+    let d = refused(rt, c, 32, 32, 127, 13)?;
+    let e = refused(rt, d, 0, 0xffff_ffff_ffff_ffff, 0, 6)?;
+    let f = refused(rt, e, 1, 0x4000_0000_0000_0001, 4, 6)?;
+    group::end(rt)?;
+    Ok(f)
 }
 
-pub fn lengths(t: Tally) -> Tally {
-    group::begin(b"readings length");
-    let a = refused(t, 31, 31, 123, 15);
-    let b = refused(a, 31, 31, 125, 15);
-    let c = refused(b, 31, 31, 0, 15);
-    let d = refused(c, 0, 0, 1, 15);
-    group::end();
-    d
+pub fn lengths(rt: &impl Print, t: Tally) -> io::Result<Tally> {
+    group::begin(rt, b"readings length")?;
+    let a = refused(rt, t, 31, 31, 123, 15)?;
+    let b = refused(rt, a, 31, 31, 125, 15)?;
+    let c = refused(rt, b, 31, 31, 0, 15)?;
+    let d = refused(rt, c, 0, 0, 1, 15)?;
+    group::end(rt)?;
+    Ok(d)
 }
 
 // A month without a visit: count 0 and no text. The run is left as it was.
-fn no_visit(t: Tally) -> Tally {
+fn no_visit(rt: &impl Print, t: Tally) -> io::Result<Tally> {
     let mut run = [5i32; 2];
     let mut none = [0u8; 0];
-    let a = read(t, 0, &[0; 0], &mut run, &[5; 2], other(0));
-    wrote(a, 0, &run, &mut none, &[0; 0], other(0))
+    let a = read(rt, t, 0, &[0; 0], &mut run, &[5; 2], other(0))?;
+    wrote(rt, a, 0, &run, &mut none, &[0; 0], other(0))
 }
 
 // 31 readings of which the first and the last are missing, in a run of 32: its last number stays.
-fn full_month(t: Tally) -> Tally {
+fn full_month(rt: &impl Print, t: Tally) -> io::Result<Tally> {
     let mut raw = [0u8; 124];
     raw[3] = 0x80;
     raw[123] = 0x80;
@@ -269,14 +324,14 @@ fn full_month(t: Tally) -> Tally {
     then[31] = 5;
     let mut run = [5i32; 32];
     let mut bytes = [0xaau8; 124];
-    let a = read(t, 31, &raw, &mut run, &then, other(0));
-    wrote(a, 31, &then, &mut bytes, &raw, other(0))
+    let a = read(rt, t, 31, &raw, &mut run, &then, other(0))?;
+    wrote(rt, a, 31, &then, &mut bytes, &raw, other(0))
 }
 
-pub fn months(t: Tally) -> Tally {
-    group::begin(b"whole months");
-    let a = no_visit(t);
-    let b = full_month(a);
-    group::end();
-    b
+pub fn months(rt: &impl Print, t: Tally) -> io::Result<Tally> {
+    group::begin(rt, b"whole months")?;
+    let a = no_visit(rt, t)?;
+    let b = full_month(rt, a)?;
+    group::end(rt)?;
+    Ok(b)
 }

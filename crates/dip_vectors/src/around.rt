@@ -3,6 +3,7 @@ ghost use Rattle.std.specs.Prelude.{◌<◌};
 
 use crate::run;
 use crate::run::Run;
+use std::io;
 use trials::say;
 use trials::tally::{Tally, add, none};
 
@@ -27,9 +28,9 @@ fn changes() -> Tally {
     t
 }
 
-pub fn tell() {
+pub fn tell(rt: &impl Print) -> io::Result<()> {
     let t = changes();
-    say::text(b"changes of a number in and around a lent run: ");
-    say::number(t.agreed);
-    say::text(b" of 80 seen\n");
+    say::text(rt, b"changes of a number in and around a lent run: ")?;
+    say::number(rt, t.agreed)?;
+    say::text(rt, b" of 80 seen\n")
 }

@@ -1,11 +1,14 @@
 // Runs the second program's readings of months (docs/VECTORS.md) through the public calls that read and write them, and says how
 // many calls agreed in everything that the file tells, and how many differed.
 #![tactic(auto)]
+
 mod around;
 mod calls;
 mod run;
 
 use scan::find;
+use std::rt::Files;
+use std::{fs, io};
 use trials::say;
 use vectors::compare::told;
 use vectors::file::{load, past, room};
@@ -59,24 +62,26 @@ fn lines(file: &[u8]) -> Tallies {
 }
 
 // The line of a file: what it is, and how it came out.
-fn report(name: &[u8], what: &[u8], file: &mut [u8]) {
-    let n = load(os::open_read(name), file);
+fn report(rt: &(impl Files + Print), name: &str, what: &[u8], file: &mut [u8]) -> io::Result<()> {
+    let n = load(fs::open(rt, name), file);
     let t = lines(&file[0..n]);
-    say::text(what);
-    tallies::outcome(t);
+    say::text(rt, what)?;
+    tallies::outcome(rt, t)
 }
 
-fn main() {
+fn main(rt: HostRuntime) -> io::Result<()> {
     let mut file = room();
-    around::tell();
+    around::tell(&rt)?;
     report(
-        b"readings.txt",
+        &rt,
+        "readings.txt",
         b"readings of the second program: ",
         &mut file,
-    );
+    )?;
     report(
-        b"wrong_readings.txt",
+        &rt,
+        "wrong_readings.txt",
         b"one wrong word in each line: ",
         &mut file,
-    );
+    )
 }

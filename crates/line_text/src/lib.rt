@@ -1,6 +1,7 @@
 // The lines of a text, what each is (a month, a comment, blank, or indented) and its words. Serves the months of a text and what is said of
 // a line.
 #![tactic(auto)]
+
 mod kind;
 mod line_words;
 mod places;

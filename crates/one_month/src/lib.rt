@@ -1,5 +1,6 @@
 // One month sealed and opened again with Lake: the lines that a user starts from, which the README shows as they stand here.
 #![tactic(auto)]
+
 use table::{DONE, StartTag};
 
 // Seals the readings `text` (up to 124 bytes) with the header `meta`, opens them on a second session into `out`, and answers

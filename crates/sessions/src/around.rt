@@ -1,6 +1,7 @@
 // Whether the look at the bytes around a lent part can fail: of an array with 16 bytes lent each byte is changed in turn.
 ghost use Rattle.std.specs.Prelude.{◌<◌, ◌≤◌, length};
 
+use std::io;
 use trials::say;
 use trials::tally::{Tally, add, none};
 use vectors::guard::{BEFORE, TAG_ARRAY, kept, lent};
@@ -35,9 +36,9 @@ fn changes() -> Tally {
     t
 }
 
-pub fn tell() {
+pub fn tell(rt: &impl Print) -> io::Result<()> {
     let t = changes();
-    say::text(b"changes of a byte around a lent part: ");
-    say::number(t.agreed);
-    say::text(b" of 80 seen\n");
+    say::text(rt, b"changes of a byte around a lent part: ")?;
+    say::number(rt, t.agreed)?;
+    say::text(rt, b" of 80 seen\n")
 }

@@ -1,14 +1,17 @@
 // Runs sessions in the vector layout (docs/VECTORS.md) through the public calls of Lake and River and the public permutation,
 // and says how many calls agreed in everything that the file tells, and how many differed.
 #![tactic(auto)]
+
 mod around;
 mod hand;
 mod steps;
 
-use scan::find;
 use decimal::LARGEST;
 use hand::{Hand, unstarted};
+use scan::find;
 use std::num::wrapping_add_usize;
+use std::rt::Files;
+use std::{fs, io};
 use steps::Step;
 use trials::say;
 use vectors::compare::told;
@@ -120,63 +123,61 @@ const RANDOM: usize = 6;
 
 const FILES: usize = 8;
 
-fn opened_file(which: usize) -> i32 {
+fn opened_file<R: Files>(rt: &R, which: usize) -> io::Result<R::File> {
     match which {
-        SAMPLE => os::open_read(b"sample.txt"),
-        WRONG => os::open_read(b"wrong.txt"),
-        LATE => os::open_read(b"late.txt"),
-        WORDS => os::open_read(b"words.txt"),
-        UNSOUND => os::open_read(b"unsound.txt"),
-        TEAM => os::open_read(b"team.txt"),
-        RANDOM => os::open_read(b"random.txt"),
-        _ => os::open_read(b"sessions.txt"),
+        SAMPLE => fs::open(rt, "sample.txt"),
+        WRONG => fs::open(rt, "wrong.txt"),
+        LATE => fs::open(rt, "late.txt"),
+        WORDS => fs::open(rt, "words.txt"),
+        UNSOUND => fs::open(rt, "unsound.txt"),
+        TEAM => fs::open(rt, "team.txt"),
+        RANDOM => fs::open(rt, "random.txt"),
+        _ => fs::open(rt, "sessions.txt"),
     }
 }
 
 // The Keyak team's vectors, if a user supplied some.
-fn tell_team(size: usize, t: Tallies) {
+fn tell_team(rt: &impl Print, size: usize, t: Tallies) -> io::Result<()> {
     if size == 0 {
-        say::text(b"team vectors: 0 supplied\n");
-        return;
+        return say::text(rt, b"team vectors: 0 supplied\n");
     }
-    tallies::total(b"team vectors: ", t);
+    tallies::total(rt, b"team vectors: ", t)
 }
 
-fn tell_sessions(t: Tallies) {
-    tallies::table(t);
-    tallies::total(b"sessions: ", t);
+fn tell_sessions(rt: &impl Print, t: Tallies) -> io::Result<()> {
+    tallies::table(rt, t)?;
+    tallies::total(rt, b"sessions: ", t)
 }
 
 // How a file of `size` bytes came out.
-fn tell(which: usize, size: usize, t: Tallies) {
+fn tell(rt: &impl Print, which: usize, size: usize, t: Tallies) -> io::Result<()> {
     match which {
-        SAMPLE => tallies::total(b"vectors of the second program: ", t),
-        WRONG => tallies::total(b"the same with one wrong byte: ", t),
-        LATE => tallies::total(b"the last of 65,535 bytes wrong: ", t),
-        WORDS => tallies::total(b"one wrong word in each line: ", t),
-        UNSOUND => tallies::total(b"lines outside the layout: ", t),
-        TEAM => tell_team(size, t),
-        RANDOM => tallies::total(b"random sessions: ", t),
-        _ => tell_sessions(t),
+        SAMPLE => tallies::total(rt, b"vectors of the second program: ", t),
+        WRONG => tallies::total(rt, b"the same with one wrong byte: ", t),
+        LATE => tallies::total(rt, b"the last of 65,535 bytes wrong: ", t),
+        WORDS => tallies::total(rt, b"one wrong word in each line: ", t),
+        UNSOUND => tallies::total(rt, b"lines outside the layout: ", t),
+        TEAM => tell_team(rt, size, t),
+        RANDOM => tallies::total(rt, b"random sessions: ", t),
+        _ => tell_sessions(rt, t),
     }
 }
 
-fn report(which: usize, file: &mut [u8]) {
-    let n = load(opened_file(which), file);
+fn report(rt: &(impl Files + Print), which: usize, file: &mut [u8]) -> io::Result<()> {
+    let n = load(opened_file(rt, which), file);
     let t = lines(&file[0..n]);
-    tell(which, n, t);
+    tell(rt, which, n, t)
 }
 
-fn all(file: &mut [u8]) {
-    let mut which = SAMPLE;
-    while which < FILES {
-        report(which, file);
-        which += 1;
+fn all(rt: &(impl Files + Print), file: &mut [u8]) -> io::Result<()> {
+    for which in SAMPLE..FILES {
+        report(rt, which, file)?;
     }
+    Ok(())
 }
 
-fn main() {
+fn main(rt: HostRuntime) -> io::Result<()> {
     let mut file = room();
-    around::tell();
-    all(&mut file);
+    around::tell(&rt)?;
+    all(&rt, &mut file)
 }

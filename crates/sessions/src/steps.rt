@@ -17,6 +17,9 @@ pub struct Step {
     pub hand: Hand,
 }
 
+// The most bytes of a key, a nonce, a text or metadata that a line may give.
+const LONGEST: usize = 65536;
+
 fn phase_of(n: usize) -> Phase {
     match n {
         0 => Phase::Unstarted,
@@ -170,7 +173,7 @@ fn start_on(line: &[u8], seen: Seen, h: Hand, key: &[u8], nonce: &[u8]) -> Step 
 
 // NONCE
 fn start_with(line: &[u8], seen: Seen, h: Hand, key: &[u8]) -> Step {
-    let mut nonce = io::large_buffer();
+    let mut nonce = [0u8; LONGEST];
     let told = given(line, seen, &mut nonce);
     let n = told.length;
     start_on(line, told.seen, h, key, &nonce[0..n])
@@ -178,7 +181,7 @@ fn start_with(line: &[u8], seen: Seen, h: Hand, key: &[u8]) -> Step {
 
 // start KEY NONCE USE FORGET TAG ..
 pub fn start(line: &[u8], h: Hand) -> Step {
-    let mut key = io::large_buffer();
+    let mut key = [0u8; LONGEST];
     let told = given(line, begun(line), &mut key);
     let n = told.length;
     start_with(line, told.seen, h, &key[0..n])
@@ -302,7 +305,7 @@ fn send_on(line: &[u8], seen: Seen, h: Hand, open: bool, text: &[u8], meta: &[u8
 
 // METADATA
 fn send_with(line: &[u8], seen: Seen, h: Hand, open: bool, text: &[u8]) -> Step {
-    let mut meta = io::large_buffer();
+    let mut meta = [0u8; LONGEST];
     let told = given(line, seen, &mut meta);
     let n = told.length;
     send_on(line, told.seen, h, open, text, &meta[0..n])
@@ -310,7 +313,7 @@ fn send_with(line: &[u8], seen: Seen, h: Hand, open: bool, text: &[u8]) -> Step 
 
 // wrap or unwrap TEXT METADATA FORGET OUTPUT TAG ..
 pub fn message(line: &[u8], h: Hand, open: bool) -> Step {
-    let mut text = io::large_buffer();
+    let mut text = [0u8; LONGEST];
     let told = given(line, begun(line), &mut text);
     let n = told.length;
     send_with(line, told.seen, h, open, &text[0..n])

@@ -1,5 +1,5 @@
 // Bytes of a file as a person may see them: between quotes, a byte that is no printable one by its number, and not too many.
-use crate::put;
+use crate::{byte, put};
 
 // How many are shown.
 const MOST: usize = 48;
@@ -8,24 +8,22 @@ fn plain(b: u8) -> bool {
     (0x20 <= b) & (b <= 0x7e) & (b != b'\\') & (b != b'"')
 }
 
-fn one(to: i32, b: u8) -> bool {
+fn one(to: &impl Print, b: u8) -> bool {
     if plain(b) {
         return put(to, &[b]);
     }
-    put(to, b"\\x") & io::print_hex(to, endian::wide64(b), 2)
+    put(to, b"\\x") & byte(to, b)
 }
 
-fn each(to: i32, bytes: &[u8]) -> bool {
+fn each(to: &impl Print, bytes: &[u8]) -> bool {
     let mut all = true;
-    let mut i = 0;
-    while i < bytes.len() {
-        all = all & one(to, bytes[i]);
-        i += 1;
+    for b in bytes {
+        all = all & one(to, *b);
     }
     all
 }
 
-pub fn quoted(to: i32, bytes: &[u8]) -> bool {
+pub fn quoted(to: &impl Print, bytes: &[u8]) -> bool {
     let n = slices::least(bytes.len(), MOST);
     let begun = put(to, b"\"") & each(to, &bytes[0..n]);
     if n < bytes.len() {

@@ -3,7 +3,7 @@
 use crate::{number as put_number, put};
 
 // What a key, a nonce and a reading may be.
-pub fn limit(to: i32, number: u8) -> bool {
+pub fn limit(to: &impl Print, number: u8) -> bool {
     match number {
         table::KEY_LENGTH => put(to, b"a key has 16 to 32 bytes"),
         table::NONCE_LENGTH => put(to, b"a nonce has up to 1024 bytes"),
@@ -12,7 +12,7 @@ pub fn limit(to: i32, number: u8) -> bool {
     }
 }
 
-pub fn words(to: i32, number: u8) -> bool {
+pub fn words(to: &impl Print, number: u8) -> bool {
     match number {
         table::DONE => put(to, b"done"),
         table::NOT_STARTED => put(to, b"session not started, or failed"),
@@ -27,6 +27,6 @@ pub fn words(to: i32, number: u8) -> bool {
     }
 }
 
-pub fn refused(to: i32, number: u8) -> bool {
+pub fn refused(to: &impl Print, number: u8) -> bool {
     put(to, b"refused with ") & put_number(to, number as usize) & put(to, b", ") & words(to, number)
 }

@@ -1,5 +1,6 @@
 // One call of Lake and of River at a time from C, on a session whose lanes C lends. Serves bench/timing, which marks them secret; no public call.
 #![tactic(auto)]
+
 pub mod once_lake;
 pub mod once_river;
 

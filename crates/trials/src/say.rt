@@ -1,10 +1,10 @@
 // Text and numbers on standard output, as the programs that try the library write them.
-use libc::STDOUT_FILENO;
+use std::io;
 
-pub fn text(what: &[u8]) {
-    io::write_all(STDOUT_FILENO, what);
+pub fn text(rt: &impl Print, what: &[u8]) -> io::Result<()> {
+    rt.write_all(what)
 }
 
-pub fn number(n: usize) {
-    io::print_decimal(STDOUT_FILENO, n as u64);
+pub fn number(rt: &impl Print, n: usize) -> io::Result<()> {
+    rt.print(n)
 }

@@ -1,5 +1,6 @@
 // How many comparisons agreed, how many differed, and how that is told, for the programs that try the library.
 use crate::say;
+use std::io;
 use std::num::wrapping_add_usize;
 
 #[derive(Clone, Copy)]
@@ -37,18 +38,18 @@ pub fn sum(s: Tally, t: Tally) -> Tally {
 }
 
 // How it came out, within a line: `what` is the word for what agreed, with its space, or nothing.
-pub fn outcome(what: &[u8], t: Tally) {
-    say::number(t.agreed);
-    say::text(what);
-    say::text(b" agreed, ");
-    say::number(t.differed);
-    say::text(b" differed");
+pub fn outcome(rt: &impl Print, what: &[u8], t: Tally) -> io::Result<()> {
+    say::number(rt, t.agreed)?;
+    say::text(rt, what)?;
+    say::text(rt, b" agreed, ")?;
+    say::number(rt, t.differed)?;
+    say::text(rt, b" differed")
 }
 
 // The line of a group: what was compared, and how it came out.
-pub fn tell(group: &[u8], t: Tally) {
-    say::text(group);
-    say::text(b": ");
-    outcome(b"", t);
-    say::text(b"\n");
+pub fn tell(rt: &impl Print, group: &[u8], t: Tally) -> io::Result<()> {
+    say::text(rt, group)?;
+    say::text(rt, b": ")?;
+    outcome(rt, b"", t)?;
+    say::text(rt, b"\n")
 }

@@ -2,6 +2,7 @@
 // lent buffer, and the tallies of what agreed.
 // Serves the programs; no public call.
 #![tactic(auto)]
+
 pub mod compare;
 pub mod file;
 pub mod guard;

@@ -1,4 +1,5 @@
 // What agreed and what differed in a file of vectors, by instance and kind of call, and how it is told.
+use std::io;
 use std::num::wrapping_add_usize;
 use trials::tally::{Tally, sum, tell};
 use trials::{say, tally};
@@ -94,33 +95,33 @@ pub fn calls(t: Tallies) -> usize {
 }
 
 // The lines of a table: one for each kind of call.
-pub fn table(t: Tallies) {
+pub fn table(rt: &impl Print, t: Tallies) -> io::Result<()> {
     let k = t.kinds;
-    tell(b"  Lake start", k[0]);
-    tell(b"  Lake wrap", k[1]);
-    tell(b"  Lake unwrap", k[2]);
-    tell(b"  permutation of 64-bit lanes", k[3]);
-    tell(b"  River start", k[4]);
-    tell(b"  River wrap", k[5]);
-    tell(b"  River unwrap", k[6]);
-    tell(b"  permutation of 32-bit lanes", k[7]);
+    tell(rt, b"  Lake start", k[0])?;
+    tell(rt, b"  Lake wrap", k[1])?;
+    tell(rt, b"  Lake unwrap", k[2])?;
+    tell(rt, b"  permutation of 64-bit lanes", k[3])?;
+    tell(rt, b"  River start", k[4])?;
+    tell(rt, b"  River wrap", k[5])?;
+    tell(rt, b"  River unwrap", k[6])?;
+    tell(rt, b"  permutation of 32-bit lanes", k[7])
 }
 
 // How the calls of a file came out, and which line differed first. With that the line ends.
-pub fn outcome(t: Tallies) {
+pub fn outcome(rt: &impl Print, t: Tallies) -> io::Result<()> {
     let kinds = t.kinds;
-    tally::outcome(b" calls", sum(compared(kinds), kinds[NO_CALL]));
+    tally::outcome(rt, b" calls", sum(compared(kinds), kinds[NO_CALL]))?;
     if t.first != 0 {
-        say::text(b", the first in line ");
-        say::number(t.first);
+        say::text(rt, b", the first in line ")?;
+        say::number(rt, t.first)?;
     }
-    say::text(b"\n");
+    say::text(rt, b"\n")
 }
 
 // The line of a file of sessions: what it is, and how it came out.
-pub fn total(what: &[u8], t: Tallies) {
-    say::text(what);
-    say::number(t.sessions);
-    say::text(b" sessions, ");
-    outcome(t);
+pub fn total(rt: &impl Print, what: &[u8], t: Tallies) -> io::Result<()> {
+    say::text(rt, what)?;
+    say::number(rt, t.sessions)?;
+    say::text(rt, b" sessions, ")?;
+    outcome(rt, t)
 }

@@ -4,6 +4,7 @@ ghost use Rattle.std.specs.Prelude.{◌≡◌, ◌*◌, ◌≤◌, length};
 
 use crate::compare::agrees;
 use crate::sponge::{Kind, hash};
+use std::io;
 use trials::pattern::{Pattern, fill};
 use trials::tally::{Tally, add, none, tell};
 
@@ -70,7 +71,7 @@ fn second(k: Kind, hex: &[u8]) -> bool {
 }
 
 // FIPS 202. The messages go up to, onto and past the block of 136 bytes.
-pub fn sha3_256() -> Tally {
+pub fn sha3_256(rt: &impl Print) -> io::Result<Tally> {
     let k = Kind {
         rate: 136,
         rounds: 24,
@@ -82,14 +83,15 @@ pub fn sha3_256() -> Tally {
         b"a7ffc6f8bf1ed76651c14756a061d662f580ff4de43b49fa82d80a4b80f8434a3a985da74fe225b2045c172d6bd390bd855f086e3e9d525b46bfe24511431532fded8fd9d6551c601eeb3b7c6bc5e5cfd8aad1d015b7e9aaa9c9b9475231d5e2cf3ccff92480a29160c2d38317c430e14749bfee1788106957dfe73f8c4930e579f38adec5c20307a98ef76e8324afbfd46cfd81b22e3973c65fa1bd9de31787d201f5cc7d18f67ba32439c73b64b0fe10c583fb5abe912d9c09160ecddab8ef",
     );
     tell(
+        rt,
         b"SHA3-256 (24 rounds) of 0, 3, 135, 136, 200 and 289 bytes",
         t,
-    );
-    t
+    )?;
+    Ok(t)
 }
 
 // FIPS 202. The block has 168 bytes.
-pub fn shake128() -> Tally {
+pub fn shake128(rt: &impl Print) -> io::Result<Tally> {
     let k = Kind {
         rate: 168,
         rounds: 24,
@@ -106,14 +108,15 @@ pub fn shake128() -> Tally {
     );
     let all = add(t, last);
     tell(
+        rt,
         b"SHAKE128 (24 rounds) of 0, 3, 167, 168, 200 and 289 bytes, and a second block of output",
         all,
-    );
-    all
+    )?;
+    Ok(all)
 }
 
 // RFC 9861, section 5, with the byte 1F.
-pub fn turboshake128() -> Tally {
+pub fn turboshake128(rt: &impl Print) -> io::Result<Tally> {
     let k = Kind {
         rate: 168,
         rounds: 12,
@@ -124,6 +127,10 @@ pub fn turboshake128() -> Tally {
         &[0, 1, 17, 289],
         b"1e415f1c5983aff2169217277d17bb538cd945a397ddec541f1ce41af2c1b74c55cedd6f60af7bb29a4042ae832ef3f58db7299f893ebb9247247d856958daa99c97d036a3bac819db70ede0ca554ec6e4c2a1a4ffbfd9ec269ca6a11116123396c77c279e0126f7fc07c9b07f5cdae1e0be60bdbe10620040e75d7223a624d2",
     );
-    tell(b"TurboSHAKE128 (12 rounds) of 0, 1, 17 and 289 bytes", t);
-    t
+    tell(
+        rt,
+        b"TurboSHAKE128 (12 rounds) of 0, 1, 17 and 289 bytes",
+        t,
+    )?;
+    Ok(t)
 }

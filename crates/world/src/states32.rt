@@ -1,6 +1,7 @@
 // States and counts at 32-bit lanes: KECCAK-f[800] of the zero state, and each count that the public call may be asked.
 use crate::compare::agrees;
 use keccak32::permute;
+use std::io;
 use trials::lanes::{BYTES32, bytes32};
 use trials::tally::{Tally, add, none, tell};
 
@@ -35,7 +36,7 @@ fn as_given(t: Tally, count: usize) -> Tally {
 }
 
 // The Keccak team's intermediate values: KECCAK-f[800] of the zero state, and once more.
-pub fn zero() -> Tally {
+pub fn zero(rt: &impl Print) -> io::Result<Tally> {
     let p = permute([0; 25], 22);
     let once = p.lanes;
     let q = permute(once, 22);
@@ -54,11 +55,11 @@ pub fn zero() -> Tally {
             b"0d2dbf75890e619b40af26c8ab84cd64d6bd05f9352883bcb901805fce2c66155ec9388e43e51f708043541bffdeac89deb5ed51d902970e16aa196cee3e91a29a4e75603c061998549270f484909fd059a22d77f75db31d6201a65ad5258835ab3b78b3",
         ),
     );
-    tell(b"KECCAK-f[800] of the zero state, once and twice", t2);
-    t2
+    tell(rt, b"KECCAK-f[800] of the zero state, once and twice", t2)?;
+    Ok(t2)
 }
 
-pub fn counts() -> Tally {
+pub fn counts(rt: &impl Print) -> io::Result<Tally> {
     let t1 = asked(
         none(),
         1,
@@ -72,21 +73,23 @@ pub fn counts() -> Tally {
         b"cf302fe468d9cf1ef7e1890d04d9b7797041f1df9dc8f630d3cfa76480ad782df5edc3ab7ced8600ea466fff173dfde0080aca716746284d229f86b3f9f340ce27271e08350c69c6e834a27730c5ba5b54ce6329a97329714f0a290a179245fd03b0ccb6",
     );
     tell(
+        rt,
         b"32-bit lanes, counts 1 and 22: that many of the last rounds are done and answered",
         t2,
-    );
-    t2
+    )?;
+    Ok(t2)
 }
 
-pub fn refusals() -> Tally {
+pub fn refusals(rt: &impl Print) -> io::Result<Tally> {
     let t1 = as_given(none(), 0);
     let t2 = as_given(t1, 23);
     let t3 = as_given(t2, 24);
     let t4 = as_given(t3, 25);
     let t5 = as_given(t4, usize::MAX);
     tell(
+        rt,
         b"32-bit lanes, counts 0, 23, 24, 25 and 2^64 - 1: none is done, 0 is answered, the lanes are as given",
         t5,
-    );
-    t5
+    )?;
+    Ok(t5)
 }

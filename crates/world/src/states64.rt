@@ -1,6 +1,7 @@
 // States and counts at 64-bit lanes: KECCAK-f[1600] of the zero state, and each count that the public call may be asked.
 use crate::compare::agrees;
 use keccak64::permute;
+use std::io;
 use trials::lanes::bytes64;
 use trials::tally::{Tally, add, none, tell};
 
@@ -29,7 +30,7 @@ fn as_given(t: Tally, count: usize) -> Tally {
 }
 
 // The Keccak team's intermediate values: KECCAK-f[1600] of the zero state, and once more.
-pub fn zero() -> Tally {
+pub fn zero(rt: &impl Print) -> io::Result<Tally> {
     let p = permute([0; 25], 24);
     let once = p.lanes;
     let q = permute(once, 24);
@@ -48,11 +49,11 @@ pub fn zero() -> Tally {
             b"3ccb6ef94d955c2d6db55770d02c336a6c6bd770128d3d0994d06955b2d9208a56f1e7e5994f9c4f38fb65daa2b957f90daf7512ae3d7785f710d8c347f2f4fa59879af7e69e1b1f25b498ee0fccfee4a168ceb9b661ce684f978fbac466eadef5b1af6e833dc433d9db1927045406e065128309f0a9f87c434717bfa64954fd404b99d833addd9774e70b5dfcd5ea483cb0b755eec8b8e3e9429e646e22a0917bddbae729310e90e8cca3fac59e2a20b63d1c4e4602345b59104ca4624e9f605cbf8f6ad26cd020",
         ),
     );
-    tell(b"KECCAK-f[1600] of the zero state, once and twice", t2);
-    t2
+    tell(rt, b"KECCAK-f[1600] of the zero state, once and twice", t2)?;
+    Ok(t2)
 }
 
-pub fn counts() -> Tally {
+pub fn counts(rt: &impl Print) -> io::Result<Tally> {
     let t1 = asked(
         none(),
         1,
@@ -78,19 +79,21 @@ pub fn counts() -> Tally {
         b"1581ed5252b07483009456b676a6f71d7d79518a4b1965f7450576d1437b47206a60f6f3a48b5fd193d48d7c4f14d7a13ffd38519693d130bee31b9572947e485a7adacb58a8f30c887fb19b384ee52f8f269f0dde38730b7f6d258bf5dfef556a3e2ceb943e35c8111f908c94f62a2ea69d30ca0cde73e8e2314d946cc2aff7d715c48c80eaf5a0cfd83e7e4331f55321d2a4433b1f7f7785e999b43ca60cfd3023d1c5c055c0d4dfa7e0a68ae52fa7a348997c93f51a42880834713010165e334a7e293af453d1",
     );
     tell(
+        rt,
         b"64-bit lanes, counts 1, 22, 23 and 24: that many of the last rounds are done and answered",
         t4,
-    );
-    t4
+    )?;
+    Ok(t4)
 }
 
-pub fn refusals() -> Tally {
+pub fn refusals(rt: &impl Print) -> io::Result<Tally> {
     let t1 = as_given(none(), 0);
     let t2 = as_given(t1, 25);
     let t3 = as_given(t2, usize::MAX);
     tell(
+        rt,
         b"64-bit lanes, counts 0, 25 and 2^64 - 1: none is done, 0 is answered, the lanes are as given",
         t3,
-    );
-    t3
+    )?;
+    Ok(t3)
 }

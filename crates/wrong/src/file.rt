@@ -1,10 +1,11 @@
 // What is said of the program's words and its files where they stop the job, and that nothing was sealed. Serves the main job.
+use std::io::ErrorKind;
 
-pub fn nothing(errors: i32) {
+pub fn nothing(errors: &impl Print) {
     show::put(errors, b"Nothing was sealed.\n");
 }
 
-pub fn usage(errors: i32) {
+pub fn usage(errors: &impl Print) {
     show::put(errors, b"usage: year lake|river DIPS KEY NONCE\n");
     show::put(
         errors,
@@ -18,7 +19,7 @@ pub fn usage(errors: i32) {
     nothing(errors);
 }
 
-pub fn long_argument(errors: i32) {
+pub fn long_argument(errors: &impl Print) {
     show::put(
         errors,
         b"an argument is too long; it has up to 4096 bytes\n",
@@ -26,47 +27,46 @@ pub fn long_argument(errors: i32) {
     nothing(errors);
 }
 
-pub fn no_instance(errors: i32, word: &[u8]) {
+pub fn no_instance(errors: &impl Print, word: &[u8]) {
     show::quoted(errors, word);
     show::put(errors, b" is neither lake nor river\n");
     usage(errors);
 }
 
-// Why a file could not be opened or read, by the system's own number.
-fn cause(errors: i32, number: i32) -> bool {
-    match number {
-        libc::ENOENT => show::put(errors, b"there is no such file"),
-        libc::EACCES => show::put(errors, b"it may not be read"),
-        libc::EISDIR => show::put(errors, b"it is a folder"),
-        libc::ENAMETOOLONG => show::put(errors, b"its name is too long"),
+// Why a file could not be opened or read.
+fn cause(errors: &impl Print, kind: ErrorKind) -> bool {
+    match kind {
+        ErrorKind::NotFound => show::put(errors, b"there is no such file"),
+        ErrorKind::PermissionDenied => show::put(errors, b"it may not be read"),
+        ErrorKind::IsADirectory => show::put(errors, b"it is a folder"),
+        ErrorKind::InvalidFilename => show::put(errors, b"its name is too long"),
         _ => show::put(errors, b"it cannot be read"),
     }
 }
 
-pub fn unread(errors: i32, path: &[u8]) {
-    let number = os::errno();
+pub fn unread(errors: &impl Print, path: &[u8], kind: ErrorKind) {
     show::put(errors, path);
     show::put(errors, b": ");
-    cause(errors, number);
+    cause(errors, kind);
     show::put(errors, b"\n");
 }
 
 // What a file may be, by the number by which a start would refuse it, or 0 for the file of dips.
-fn limit(errors: i32, what: u8) -> bool {
+fn limit(errors: &impl Print, what: u8) -> bool {
     if what == table::DONE {
         return show::put(errors, b"a file of dips has up to 16384 bytes");
     }
     show::limit(errors, what)
 }
 
-pub fn too_long(errors: i32, path: &[u8], what: u8) {
+pub fn too_long(errors: &impl Print, path: &[u8], what: u8) {
     show::put(errors, path);
     show::put(errors, b": too long; ");
     limit(errors, what);
     show::put(errors, b"\n");
 }
 
-pub fn marked(errors: i32, path: &[u8]) {
+pub fn marked(errors: &impl Print, path: &[u8]) {
     show::put(errors, path);
     show::put(
         errors,
@@ -74,26 +74,26 @@ pub fn marked(errors: i32, path: &[u8]) {
     );
 }
 
-pub fn no_month(errors: i32, path: &[u8]) {
+pub fn no_month(errors: &impl Print, path: &[u8]) {
     show::put(errors, path);
     show::put(errors, b": there is no month in it\n");
 }
 
 // Calls of the library that refused what the job handed them.
-pub fn unstarted(errors: i32, number: u8) {
+pub fn unstarted(errors: &impl Print, number: u8) {
     show::put(errors, b"the session was not started: ");
     show::refused(errors, number);
     show::put(errors, b"\n");
     nothing(errors);
 }
 
-pub fn unopened(errors: i32, number: u8) {
+pub fn unopened(errors: &impl Print, number: u8) {
     show::put(errors, b"a month was not opened: ");
     show::refused(errors, number);
     show::put(errors, b"\n");
 }
 
-pub fn unsealed(errors: i32, number: u8) {
+pub fn unsealed(errors: &impl Print, number: u8) {
     show::put(errors, b"a month was not sealed: ");
     show::refused(errors, number);
     show::put(errors, b"\n");
@@ -101,6 +101,6 @@ pub fn unsealed(errors: i32, number: u8) {
 }
 
 // The months were sealed and opened in memory alone, so what was not shown is lost.
-pub fn unwritten(errors: i32) {
+pub fn unwritten(errors: &impl Print) {
     show::put(errors, b"standard output did not take all of the table\n");
 }

@@ -3,14 +3,14 @@ use dip::Header;
 use dip_text::Trouble;
 
 // The line's number.
-fn begin(errors: i32, number: usize) {
+fn begin(errors: &impl Print, number: usize) {
     show::put(errors, b"line ");
     show::number(errors, number);
     show::put(errors, b": ");
 }
 
 // The last words; where `hash`, what was read as a month was perhaps meant as a comment.
-fn finish(errors: i32, words: &[u8], hash: bool) {
+fn finish(errors: &impl Print, words: &[u8], hash: bool) {
     show::put(errors, words);
     if hash {
         show::put(errors, b" (a comment begins with a blank, then #)");
@@ -25,18 +25,18 @@ fn has_hash(line: &[u8]) -> bool {
     line[0] == b'#'
 }
 
-fn end(errors: i32, line: &[u8], words: &[u8]) {
+fn end(errors: &impl Print, line: &[u8], words: &[u8]) {
     finish(errors, words, has_hash(line));
 }
 
 // The same of a line that is held against another month: either may be the one.
-fn end_beside(errors: i32, line: &[u8], other: Header, words: &[u8]) {
+fn end_beside(errors: &impl Print, line: &[u8], other: Header, words: &[u8]) {
     let name = other.name;
     finish(errors, words, has_hash(line) | has_hash(&name));
 }
 
 // What a word is, by its place; a reading among those of the line.
-fn called(errors: i32, line: &[u8], word: usize) -> bool {
+fn called(errors: &impl Print, line: &[u8], word: usize) -> bool {
     match word {
         0 => show::put(errors, b"well "),
         1 => show::put(errors, b"borehole "),
@@ -47,14 +47,14 @@ fn called(errors: i32, line: &[u8], word: usize) -> bool {
     }
 }
 
-fn reading(errors: i32, line: &[u8], word: usize) -> bool {
+fn reading(errors: &impl Print, line: &[u8], word: usize) -> bool {
     let found = line_text::words(line);
     let count = found - slices::least(found, 5);
     show::reading(errors, word - slices::least(word, 5), count)
 }
 
 // The limits of a word, by its place.
-fn limits(errors: i32, word: usize) -> bool {
+fn limits(errors: &impl Print, word: usize) -> bool {
     match word {
         1 => show::put(errors, b"1 to 4294967295"),
         2 => show::put(errors, b"1900 to 2199"),
@@ -65,7 +65,7 @@ fn limits(errors: i32, word: usize) -> bool {
 }
 
 // The word as it stands in the file.
-fn quoted(errors: i32, line: &[u8], word: usize) {
+fn quoted(errors: &impl Print, line: &[u8], word: usize) {
     called(errors, line, word);
     show::quoted(errors, line_text::word(line, word));
     if 4 < word {
@@ -73,7 +73,7 @@ fn quoted(errors: i32, line: &[u8], word: usize) {
     }
 }
 
-fn name_length(errors: i32, line: &[u8]) {
+fn name_length(errors: &impl Print, line: &[u8]) {
     let well = line_text::word(line, 0);
     quoted(errors, line, 0);
     show::put(errors, b" has ");
@@ -81,14 +81,14 @@ fn name_length(errors: i32, line: &[u8]) {
     show::put(errors, b" bytes; a name has 1 to 12");
 }
 
-fn name_space(errors: i32, line: &[u8], last: usize) {
+fn name_space(errors: &impl Print, line: &[u8], last: usize) {
     let k = slices::least(last, 11) + 1;
     show::put(errors, b"well ");
     show::quoted(errors, line_text::up_to(line, k));
     show::put(errors, b" seems to have a space in it; a name is one word");
 }
 
-fn too_few(errors: i32, found: usize) {
+fn too_few(errors: &impl Print, found: usize) {
     show::number(errors, found);
     show::put(
         errors,
@@ -96,25 +96,25 @@ fn too_few(errors: i32, found: usize) {
     );
 }
 
-fn too_many(errors: i32, line: &[u8]) {
+fn too_many(errors: &impl Print, line: &[u8]) {
     let found = line_text::words(line);
     show::number(errors, found - slices::least(found, 5));
     show::put(errors, b" readings; a month has up to 31");
 }
 
-fn no_number(errors: i32, line: &[u8], word: usize) {
+fn no_number(errors: &impl Print, line: &[u8], word: usize) {
     quoted(errors, line, word);
     show::put(errors, b" is not a whole number: ");
     limits(errors, word);
 }
 
-fn out_of_range(errors: i32, line: &[u8], word: usize) {
+fn out_of_range(errors: &impl Print, line: &[u8], word: usize) {
     quoted(errors, line, word);
     show::put(errors, b" is out of range: ");
     limits(errors, word);
 }
 
-fn bad_name(errors: i32, line: &[u8]) {
+fn bad_name(errors: &impl Print, line: &[u8]) {
     quoted(errors, line, 0);
     show::put(
         errors,
@@ -122,7 +122,7 @@ fn bad_name(errors: i32, line: &[u8]) {
     );
 }
 
-fn body(errors: i32, line: &[u8], trouble: Trouble) {
+fn body(errors: &impl Print, line: &[u8], trouble: Trouble) {
     let word = trouble.word;
     let number = trouble.number;
     match number {
@@ -136,13 +136,13 @@ fn body(errors: i32, line: &[u8], trouble: Trouble) {
     }
 }
 
-pub fn of(errors: i32, number: usize, line: &[u8], trouble: Trouble) {
+pub fn of(errors: &impl Print, number: usize, line: &[u8], trouble: Trouble) {
     begin(errors, number);
     body(errors, line, trouble);
     end(errors, line, b"");
 }
 
-pub fn indented(errors: i32, number: usize, line: &[u8]) {
+pub fn indented(errors: &impl Print, number: usize, line: &[u8]) {
     begin(errors, number);
     show::put(errors, b"a blank stands before ");
     show::quoted(errors, line_text::word(line, 0));
@@ -153,7 +153,7 @@ pub fn indented(errors: i32, number: usize, line: &[u8]) {
     );
 }
 
-pub fn thirteenth(errors: i32, number: usize, line: &[u8]) {
+pub fn thirteenth(errors: &impl Print, number: usize, line: &[u8]) {
     begin(errors, number);
     quoted(errors, line, 0);
     end(
@@ -164,7 +164,13 @@ pub fn thirteenth(errors: i32, number: usize, line: &[u8]) {
 }
 
 // A line that is not of the year that line `other` began, or goes on with: its word, and what it is held against.
-pub fn other_borehole(errors: i32, number: usize, line: &[u8], first: Header, other: usize) {
+pub fn other_borehole(
+    errors: &impl Print,
+    number: usize,
+    line: &[u8],
+    first: Header,
+    other: usize,
+) {
     begin(errors, number);
     quoted(errors, line, 1);
     show::put(errors, b" is another borehole than ");
@@ -173,7 +179,7 @@ pub fn other_borehole(errors: i32, number: usize, line: &[u8], first: Header, ot
     end(errors, line, b"; a file is one borehole's year");
 }
 
-pub fn other_year(errors: i32, number: usize, line: &[u8], first: Header, other: usize) {
+pub fn other_year(errors: &impl Print, number: usize, line: &[u8], first: Header, other: usize) {
     begin(errors, number);
     quoted(errors, line, 2);
     show::put(errors, b" is another year than ");
@@ -182,7 +188,7 @@ pub fn other_year(errors: i32, number: usize, line: &[u8], first: Header, other:
     end(errors, line, b"; a file is one borehole's year");
 }
 
-pub fn not_after(errors: i32, number: usize, line: &[u8], last: Header, other: usize) {
+pub fn not_after(errors: &impl Print, number: usize, line: &[u8], last: Header, other: usize) {
     begin(errors, number);
     quoted(errors, line, 3);
     show::put(errors, b" does not come after month ");
@@ -197,7 +203,7 @@ pub fn not_after(errors: i32, number: usize, line: &[u8], last: Header, other: u
 }
 
 // A line that stands, under another name than the month before it: told, so that a name that was mistyped is seen.
-pub fn renamed(errors: i32, number: usize, line: &[u8], last: Header, other: usize) {
+pub fn renamed(errors: &impl Print, number: usize, line: &[u8], last: Header, other: usize) {
     let name = last.name;
     show::put(errors, b"note: ");
     begin(errors, number);
@@ -213,7 +219,7 @@ pub fn renamed(errors: i32, number: usize, line: &[u8], last: Header, other: usi
     );
 }
 
-fn of_line(errors: i32, other: usize) {
+fn of_line(errors: &impl Print, other: usize) {
     show::put(errors, b" of line ");
     show::number(errors, other);
 }

@@ -2,7 +2,7 @@
 use dip::Header;
 
 // The reading at an index is out of range.
-pub fn reading(errors: i32, header: Header, index: usize, value: i32) {
+pub fn reading(errors: &impl Print, header: Header, index: usize, value: i32) {
     let well = header.name;
     show::name(errors, well);
     show::put(errors, b" ");
@@ -16,7 +16,7 @@ pub fn reading(errors: i32, header: Header, index: usize, value: i32) {
 }
 
 // Any other refusal, which a month that was read from a line cannot have: the number alone, since a header that is refused names no month.
-pub fn refused(errors: i32, number: u8) {
+pub fn refused(errors: &impl Print, number: u8) {
     show::put(
         errors,
         b"a month was opened, but it cannot be read: refused with ",

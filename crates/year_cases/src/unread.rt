@@ -3,7 +3,6 @@
 ghost use Rattle.std.specs.Prelude.{◌≡◌, length};
 ghost use Rattle.packets.specs.Packet.{year_bytes};
 
-use libc::STDOUT_FILENO;
 use year_job::Instance;
 
 // 2,000,001 and -2,000,001 as four bytes.
@@ -22,10 +21,10 @@ fn spoil(plain: &mut [u8])
     slices::copy(&mut plain[524..528], &ABOVE);
 }
 
-pub fn run() {
+pub fn run(output: &impl Print) {
     let mut plain = [0u8; packets::YEAR];
     let found = year_text::read_dips(
-        STDOUT_FILENO,
+        output,
         b"KW-4 51004 2026 01 92400 -1171 -1168
 KW-4 51004 2026 02 92400 1 2 3 4 5 6 7 8 9 10 11 12 13 14 15 16 17 18 19 20 21 22 23 24 25 26 27 28 29 30 31
 KW-4 51004 2026 03 92400 -1150
@@ -36,7 +35,8 @@ KW-4 51004 2026 05 92400 -1141 -1139
     );
     spoil(&mut plain);
     year_job::run_packets(
-        STDOUT_FILENO,
+        output,
+        output,
         Instance::Lake,
         b"0123456789abcdef",
         b"unread",

@@ -4,7 +4,7 @@ ghost use Rattle.std.specs.Prelude.{◌≤◌, ◌<◌, ◌*◌, ◌+◌, ◌≡
 ghost use Rattle.packets.specs.Packet.{packet_bytes};
 
 use channel::Channel;
-use show::{TABLE, put};
+use show::put;
 
 // The session after a packet, whose readings are not wanted. Were it refused, the tries after it would be refused by 1, and told so.
 fn past(channel: Channel, packet: &[u8]) -> Channel
@@ -20,11 +20,9 @@ fn after(channel: Channel, sealed: &[u8], n: usize) -> Channel
     requires { packet_bytes * n ≤ length sealed.now }
 {
     let mut session = channel;
-    let mut i = 0;
-    while i < n {
+    for i in 0..n {
         let next = past(session, packets::at(sealed, i));
         session = next;
-        i += 1;
     }
     session
 }
@@ -34,22 +32,18 @@ fn past_last_read(sealed: &[u8], months: usize) -> usize
     requires { packet_bytes * months ≤ length sealed.now }
     ensures { result ≤ months }
 {
-    let mut i = months;
-    while 0 < i {
-        if 0 < packets::text_length(packets::at(sealed, i - 1)) {
-            return i;
+    for i in (0..months).rev() {
+        if 0 < packets::text_length(packets::at(sealed, i)) {
+            return i + 1;
         }
-        i -= 1;
     }
     0
 }
 
 fn all_zero(s: &[u8]) -> bool {
     let mut any: u8 = 0;
-    let mut i = 0;
-    while i < s.len() {
-        any = any | s[i];
-        i += 1;
+    for b in s {
+        any = any | *b;
     }
     any == 0
 }
@@ -69,26 +63,26 @@ fn both(a: Tried, b: Tried) -> Tried {
 }
 
 // The words on the output.
-fn tell_output(zero: bool) -> bool {
+fn tell_output(output: &impl Print, zero: bool) -> bool {
     if zero {
-        return put(TABLE, b"; no reading came out, the output is zero over ");
+        return put(output, b"; no reading came out, the output is zero over ");
     }
-    put(TABLE, b"; the output is not zero over ")
+    put(output, b"; the output is not zero over ")
 }
 
 // The line of a try: what was done, the answer's number and words, and whether the output is zero.
-fn tell(what: &[u8], number: u8, zero: bool, size: usize) -> bool {
-    put(TABLE, what)
-        & show::number(TABLE, number as usize)
-        & put(TABLE, b", ")
-        & show::words(TABLE, number)
-        & tell_output(zero)
-        & show::number(TABLE, size)
-        & put(TABLE, b" bytes\n")
+fn tell(output: &impl Print, what: &[u8], number: u8, zero: bool, size: usize) -> bool {
+    put(output, what)
+        & show::number(output, number as usize)
+        & put(output, b", ")
+        & show::words(output, number)
+        & tell_output(output, zero)
+        & show::number(output, size)
+        & put(output, b" bytes\n")
 }
 
 // Tries a packet with its first `head` bytes as header, and an output that held other bytes.
-fn attempt(what: &[u8], channel: Channel, packet: &[u8], head: usize) -> Tried
+fn attempt(output: &impl Print, what: &[u8], channel: Channel, packet: &[u8], head: usize) -> Tried
     requires { (length packet.now ≡ packet_bytes) × (24 ≤ head) }
 {
     let mut out = [0xaau8; packets::READINGS];
@@ -99,11 +93,11 @@ fn attempt(what: &[u8], channel: Channel, packet: &[u8], head: usize) -> Tried
     let zero = all_zero(&out[0..size]);
     Tried {
         refused: zero & (answer.number == table::TAG_DIFFERS),
-        written: tell(what, answer.number, zero, size),
+        written: tell(output, what, answer.number, zero, size),
     }
 }
 
-fn flipped(channel: Channel, packet: &[u8]) -> Tried
+fn flipped(output: &impl Print, channel: Channel, packet: &[u8]) -> Tried
     requires { length packet.now ≡ packet_bytes }
 {
     let mut altered = [0u8; packets::PACKET];
@@ -111,6 +105,7 @@ fn flipped(channel: Channel, packet: &[u8]) -> Tried
     let first = altered[packets::HEADER];
     altered[packets::HEADER] = first ^ 1;
     attempt(
+        output,
         b"  one bit flipped              ",
         channel,
         &altered,
@@ -119,7 +114,7 @@ fn flipped(channel: Channel, packet: &[u8]) -> Tried
 }
 
 // With the packet before `last` left out, where there is one.
-fn left_out(channel: Channel, sealed: &[u8], last: usize) -> Tried
+fn left_out(output: &impl Print, channel: Channel, sealed: &[u8], last: usize) -> Tried
     requires { packet_bytes * (last + 1) ≤ length sealed.now }
 {
     if last == 0 {
@@ -129,6 +124,7 @@ fn left_out(channel: Channel, sealed: &[u8], last: usize) -> Tried
         };
     }
     attempt(
+        output,
         b"  the month before left out    ",
         after(channel, sealed, last - 1),
         packets::at(sealed, last),
@@ -137,32 +133,33 @@ fn left_out(channel: Channel, sealed: &[u8], last: usize) -> Tried
 }
 
 // All three at packet `last`, the last one with readings.
-fn try_at(channel: Channel, sealed: &[u8], last: usize) -> Tried
+fn try_at(output: &impl Print, channel: Channel, sealed: &[u8], last: usize) -> Tried
     requires { packet_bytes * (last + 1) ≤ length sealed.now }
 {
     let packet = packets::at(sealed, last);
     let ready = after(channel, sealed, last);
     let long = attempt(
+        output,
         b"  header taken a byte too long ",
         ready,
         packet,
         packets::HEADER + 1,
     );
-    let flip = flipped(ready, packet);
-    both(both(long, flip), left_out(channel, sealed, last))
+    let flip = flipped(output, ready, packet);
+    both(both(long, flip), left_out(output, channel, sealed, last))
 }
 
 // All tries, under a line that says on what.
-pub fn try_all(channel: Channel, sealed: &[u8], months: usize) -> Tried
+pub fn try_all(output: &impl Print, channel: Channel, sealed: &[u8], months: usize) -> Tried
     requires { packet_bytes * months ≤ length sealed.now }
 {
     let end = past_last_read(sealed, months);
     if 0 < end {
         let said = put(
-            TABLE,
+            output,
             b"\nThe last month with readings, each time on a session that opened those before it:\n",
         );
-        let tries = try_at(channel, sealed, end - 1);
+        let tries = try_at(output, channel, sealed, end - 1);
         return Tried {
             refused: tries.refused,
             written: said & tries.written,
@@ -170,6 +167,6 @@ pub fn try_all(channel: Channel, sealed: &[u8], months: usize) -> Tried
     }
     Tried {
         refused: true,
-        written: put(TABLE, b"\nNo month has readings to tamper with.\n"),
+        written: put(output, b"\nNo month has readings to tamper with.\n"),
     }
 }

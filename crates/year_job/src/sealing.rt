@@ -4,7 +4,6 @@ ghost use Rattle.packets.specs.Packet.{packet_bytes, year_bytes};
 
 use crate::{attacks, opened, rows};
 use channel::{Channel, Instance};
-use show::TABLE;
 use table::StartTag;
 use year_text::Found;
 
@@ -15,8 +14,7 @@ fn seal_all(channel: Channel, plain: &[u8], months: usize, sealed: &mut [u8]) ->
 {
     let mut session = channel;
     let mut number = table::DONE;
-    let mut i = 0;
-    while i < months {
+    for i in 0..months {
         let start = packets::PACKET * i;
         let end = start + packets::PACKET;
         let step = channel::seal(session, packets::at(plain, i), &mut sealed[start..end]);
@@ -24,7 +22,6 @@ fn seal_all(channel: Channel, plain: &[u8], months: usize, sealed: &mut [u8]) ->
         let next = step.channel;
         session = next;
         number = table::or_else(answer.number != table::DONE, answer.number, number);
-        i += 1;
     }
     number
 }
@@ -41,7 +38,8 @@ struct Opened {
 
 // A month that was opened: its row, and whether its readings can be read and are those of the plain packet.
 fn shown(
-    errors: i32,
+    output: &impl Print,
+    errors: &impl Print,
     channel: Channel,
     sealed: &[u8],
     readings: &[u8],
@@ -50,7 +48,7 @@ fn shown(
 ) -> Opened
     requires { (length sealed.now ≡ packet_bytes) × (length plain.now ≡ packet_bytes) }
 {
-    let row = opened::month(errors, sealed, readings, runs);
+    let row = opened::month(output, errors, sealed, readings, runs);
     Opened {
         channel,
         read: row.read,
@@ -59,7 +57,13 @@ fn shown(
     }
 }
 
-fn open_month(errors: i32, channel: Channel, sealed: &[u8], plain: &[u8]) -> Opened
+fn open_month(
+    output: &impl Print,
+    errors: &impl Print,
+    channel: Channel,
+    sealed: &[u8],
+    plain: &[u8],
+) -> Opened
     requires { (length sealed.now ≡ packet_bytes) × (length plain.now ≡ packet_bytes) }
 {
     let mut out = [0u8; packets::READINGS];
@@ -76,20 +80,27 @@ fn open_month(errors: i32, channel: Channel, sealed: &[u8], plain: &[u8]) -> Ope
             written: true,
         };
     }
-    shown(errors, next, sealed, &out[0..n], plain, answer.runs)
+    shown(output, errors, next, sealed, &out[0..n], plain, answer.runs)
 }
 
 // All months, one after the other; what holds of each is held of all.
-fn open_all(errors: i32, channel: Channel, sealed: &[u8], plain: &[u8], months: usize) -> Opened
+fn open_all(
+    output: &impl Print,
+    errors: &impl Print,
+    channel: Channel,
+    sealed: &[u8],
+    plain: &[u8],
+    months: usize,
+) -> Opened
     requires { (length sealed.now ≡ year_bytes) × (length plain.now ≡ year_bytes) × (months ≤ 12) }
 {
     let mut session = channel;
     let mut read = true;
     let mut same = true;
     let mut written = true;
-    let mut i = 0;
-    while i < months {
+    for i in 0..months {
         let opened = open_month(
+            output,
             errors,
             session,
             packets::at(sealed, i),
@@ -100,7 +111,6 @@ fn open_all(errors: i32, channel: Channel, sealed: &[u8], plain: &[u8], months: 
         read = read & opened.read;
         same = same & opened.same;
         written = written & opened.written;
-        i += 1;
     }
     Opened {
         channel: session,
@@ -111,21 +121,37 @@ fn open_all(errors: i32, channel: Channel, sealed: &[u8], plain: &[u8], months: 
 }
 
 // The months opened on the second session, the names that the borehole goes by, then what the session must refuse.
-fn open_year(errors: i32, second: Channel, sealed: &[u8], plain: &[u8], found: Found, begun: bool)
+fn open_year(
+    output: &impl Print,
+    errors: &impl Print,
+    second: Channel,
+    sealed: &[u8],
+    plain: &[u8],
+    found: Found,
+    begun: bool,
+)
     requires { (length sealed.now ≡ year_bytes) × (length plain.now ≡ year_bytes) × (found.months ≤ 12) }
 {
-    let opened = open_all(errors, second, sealed, plain, found.months);
-    let named = year_text::names::tell(TABLE, plain, found.months);
-    let tries = attacks::try_all(second, sealed, found.months);
+    let opened = open_all(output, errors, second, sealed, plain, found.months);
+    let named = year_text::names::tell(output, plain, found.months);
+    let tries = attacks::try_all(output, second, sealed, found.months);
     let written = begun & opened.written & named & tries.written;
-    if !rows::foot(found, opened.same, opened.read, tries.refused, written) {
+    if !rows::foot(
+        output,
+        found,
+        opened.same,
+        opened.read,
+        tries.refused,
+        written,
+    ) {
         wrong::file::unwritten(errors);
     }
 }
 
 // The second session, which checks the start tag of the first.
 fn receive(
-    errors: i32,
+    output: &impl Print,
+    errors: &impl Print,
     instance: Instance,
     key: &[u8],
     nonce: &[u8],
@@ -141,12 +167,28 @@ fn receive(
     if answer.number != table::DONE {
         return wrong::file::unstarted(errors, answer.number);
     }
-    let begun = rows::head(instance, tag);
-    open_year(errors, receiver.channel, sealed, plain, found, begun);
+    let begun = rows::head(output, instance, tag);
+    open_year(
+        output,
+        errors,
+        receiver.channel,
+        sealed,
+        plain,
+        found,
+        begun,
+    );
 }
 
 // The months sealed on the first session.
-pub fn send(errors: i32, instance: Instance, key: &[u8], nonce: &[u8], plain: &[u8], found: Found)
+pub fn send(
+    output: &impl Print,
+    errors: &impl Print,
+    instance: Instance,
+    key: &[u8],
+    nonce: &[u8],
+    plain: &[u8],
+    found: Found,
+)
     requires { (length plain.now ≡ year_bytes) × (found.months ≤ 12) }
 {
     let mut tag = [0u8; table::TAG_BYTES];
@@ -162,11 +204,19 @@ pub fn send(errors: i32, instance: Instance, key: &[u8], nonce: &[u8], plain: &[
         return wrong::file::unsealed(errors, number);
     }
     receive(
-        errors, instance, key, nonce, &mut tag, &sealed, plain, found,
+        output, errors, instance, key, nonce, &mut tag, &sealed, plain, found,
     );
 }
 
-pub fn run(errors: i32, instance: Instance, path: &[u8], text: &[u8], key: &[u8], nonce: &[u8]) {
+pub fn run(
+    output: &impl Print,
+    errors: &impl Print,
+    instance: Instance,
+    path: &[u8],
+    text: &[u8],
+    key: &[u8],
+    nonce: &[u8],
+) {
     let mut plain = [0u8; packets::YEAR];
     if line_text::has_mark(text) {
         wrong::file::marked(errors, path);
@@ -180,5 +230,5 @@ pub fn run(errors: i32, instance: Instance, path: &[u8], text: &[u8], key: &[u8]
         wrong::file::no_month(errors, path);
         return wrong::file::nothing(errors);
     }
-    send(errors, instance, key, nonce, &plain, found);
+    send(output, errors, instance, key, nonce, &plain, found);
 }

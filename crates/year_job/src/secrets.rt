@@ -11,7 +11,7 @@ fn ends_in_line_end(bytes: &[u8]) -> bool {
     bytes[n - 1] == b'\n'
 }
 
-fn has(errors: i32, path: &[u8], bytes: &[u8]) {
+fn has(errors: &impl Print, path: &[u8], bytes: &[u8]) {
     show::put(errors, path);
     show::put(errors, b" has ");
     show::number(errors, bytes.len());
@@ -22,7 +22,7 @@ fn has(errors: i32, path: &[u8], bytes: &[u8]) {
     }
 }
 
-fn refused(errors: i32, path: &[u8], bytes: &[u8], number: u8) {
+fn refused(errors: &impl Print, path: &[u8], bytes: &[u8], number: u8) {
     has(errors, path, bytes);
     show::put(errors, b": ");
     show::refused(errors, number);
@@ -33,7 +33,7 @@ fn refused(errors: i32, path: &[u8], bytes: &[u8], number: u8) {
 }
 
 // A line end may be meant, so it stays; but it is told.
-fn note(errors: i32, path: &[u8], bytes: &[u8]) {
+fn note(errors: &impl Print, path: &[u8], bytes: &[u8]) {
     if ends_in_line_end(bytes) {
         show::put(errors, b"note: ");
         has(errors, path, bytes);
@@ -53,7 +53,7 @@ fn start_number(instance: Instance, key: &[u8], nonce: &[u8]) -> u8 {
 }
 
 pub fn usable(
-    errors: i32,
+    errors: &impl Print,
     instance: Instance,
     key_path: &[u8],
     key: &[u8],

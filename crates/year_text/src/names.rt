@@ -12,10 +12,8 @@ fn is_new(year: &[u8], i: usize) -> bool
 {
     let this = headers::at(year, i);
     let mut new = true;
-    let mut k = 0;
-    while k < i {
+    for k in 0..i {
         new = new & !headers::same_name(headers::at(year, k), this);
-        k += 1;
     }
     new
 }
@@ -24,18 +22,16 @@ fn count(year: &[u8], months: usize) -> usize
     requires { (length year.now ≡ year_bytes) × (months ≤ 12) }
 {
     let mut n = 0;
-    let mut i = 0;
-    while i < months {
+    for i in 0..months {
         if is_new(year, i) {
             n += 1;
         }
-        i += 1;
     }
     n
 }
 
 // How many there are, in words, from two up to the months of a year.
-fn in_words(to: i32, n: usize) -> bool {
+fn in_words(to: &impl Print, n: usize) -> bool {
     match n {
         2 => put(to, b"two"),
         3 => put(to, b"three"),
@@ -62,32 +58,30 @@ fn changes(year: &[u8], i: usize) -> bool
 }
 
 // A name, and the month that it begins with.
-fn from(to: i32, header: Header) -> bool {
+fn from(to: &impl Print, header: Header) -> bool {
     let well = header.name;
     show::name(to, well) & put(to, b" from ") & show::date(to, header.year, header.month)
 }
 
-fn change(to: i32, header: Header) -> bool {
+fn change(to: &impl Print, header: Header) -> bool {
     put(to, b", ") & from(to, header)
 }
 
 // Every change of name; the name of the first month was told before.
-fn all_changes(to: i32, year: &[u8], months: usize) -> bool
+fn all_changes(to: &impl Print, year: &[u8], months: usize) -> bool
     requires { (length year.now ≡ year_bytes) × (months ≤ 12) }
 {
     let mut all = true;
-    let mut i = 0;
-    while i < months {
+    for i in 0..months {
         if changes(year, i) {
             all = all & change(to, headers::at(year, i));
         }
-        i += 1;
     }
     all
 }
 
 // Where the months of a year go by more than one name, a line that says so; answers whether all of it was written.
-pub fn tell(to: i32, year: &[u8], months: usize) -> bool
+pub fn tell(to: &impl Print, year: &[u8], months: usize) -> bool
     requires { (length year.now ≡ year_bytes) × (months ≤ 12) }
 {
     let names = count(year, months);

@@ -1,2 +1,0 @@
--- The law of a line's first byte that `kind_of` cites.
-pub mod First

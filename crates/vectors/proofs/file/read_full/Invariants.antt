@@ -1,0 +1,9 @@
+-- Each read gives a byte or more.
+use Rattle.std.proofs.Common.{◌-◌, ◌≤◌, length}
+use Rattle.vectors.proofs.file.read_full.Given as goal
+
+abbrev pub invariant-loop-done : goal.invariant-loop-done
+invariant-loop-done g l = l.done ≤ length l.into
+
+abbrev pub decreases-loop-done : goal.decreases-loop-done
+decreases-loop-done g l = length l.initial.into - l.done

@@ -56,9 +56,14 @@ pub fn name_in(to: &impl Print, well: [u8; 12]) -> bool {
     put(to, &well[0..n]) & spaces(to, 14 - n)
 }
 
+// A number of two digits.
+fn two_digits(to: &impl Print, n: usize) -> bool {
+    print!(to; "{n:02}").is_ok()
+}
+
 // Year and month, as 2025-01.
 pub fn date(to: &impl Print, year: u16, month: u8) -> bool {
-    print!(to; "{year}-{month:02}").is_ok()
+    number(to, year as usize) & put(to, b"-") & two_digits(to, month as usize)
 }
 
 pub fn hex(to: &impl Print, bytes: &[u8]) -> bool {

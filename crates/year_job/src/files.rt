@@ -34,17 +34,23 @@ fn fill(file: &mut impl Read, into: &mut [u8]) -> io::Result<usize>
     Ok(done)
 }
 
+// The end of a file that was read into a buffer: whether there is no more.
+fn is_read(file: &mut impl Read) -> io::Result<bool> {
+    let mut more = [0u8; 1];
+    let got = file.read(&mut more)?;
+    Ok(got == 0)
+}
+
 // Reads a file; how long it is, or `None` where there is more of it than the buffer holds. No name that is not UTF-8 can be opened.
 fn read(files: &impl Files, path: &[u8], into: &mut [u8]) -> io::Result<Option<usize>>
     ensures { IfOk result (λ found. IfSome found (λ n. n ≤ length into.new)) }
 {
-    let mut more = [0u8; 1];
     match str::from_utf8(path) {
         Err(_) => Err(io::Error::from(ErrorKind::InvalidInput)),
         Ok(name) => {
             let mut file = fs::open(files, name)?;
             let length = fill(&mut file, into)?;
-            if file.read(&mut more)? == 0 {
+            if is_read(&mut file)? {
                 return Ok(Some(length));
             }
             Ok(None)

@@ -30,12 +30,19 @@ PUBLIC = ["lake", "river", "keccak64", "keccak32", "dip_header", "dip_readings"]
 INNER = {"keccak64::permute12", "keccak32::permute12"}
 
 
+def used(item):
+    """What an item passes on: of `pub use a::{b, c}` a::b and a::c; of anything else the item itself."""
+    found = re.fullmatch(r"pub use (\w+)::(?:(\w+)|\{([\w\s,]+)\})", item)
+    return {f"{found[1]}::{name.strip()}" for name in (found[2] or found[3]).split(",") if name.strip()} if found else {item}
+
+
 def offered(crate):
     """The functions that a crate offers: those of its lib.rt, and of a module what lib.rt passes on by `pub use`, or all by `pub mod`."""
     lib = texts(f"{crate}/src/lib.rt")
+    passed = {name for item in re.findall(r"^pub use [^;]*(?=;)", lib, re.M) for name in used(item)}
     for file in sorted((CRATES / crate / "src").rglob("*.rt")):
         for found in re.finditer(r"^pub fn (\w+)\(.*?^\{", file.read_text(), re.M | re.S):
-            here = file.stem == "lib" or f"pub mod {file.stem};" in lib or f"pub use {file.stem}::{found[1]};" in lib
+            here = file.stem == "lib" or f"pub mod {file.stem};" in lib or f"{file.stem}::{found[1]}" in passed
             if here:
                 yield found[1], found[0]
 
@@ -54,7 +61,7 @@ def unprinted(page):
     for call, text in contracts():
         row = next((line for line in page.splitlines() if line.startswith(f"| `{call}` |")), "")
         printed = re.search(r"\| `[^`]+` \| `([^`]+)` \|", row)
-        if call not in INNER and not (printed and f"ensures {{ λ r. ⌜ {printed[1]} ⌝ }}\n{{" in text and "requires" not in text):
+        if call not in INNER and not (printed and f"ensures {{ {printed[1]} }}\n{{" in text and text.count("ensures") == 1 and "requires" not in text):
             yield f"contract not printed as it stands: {call}"
 
 
@@ -67,8 +74,8 @@ def passed_on(page):
         structs = re.findall(r"^pub struct (\w+)", code, re.M)
         needed |= {f"{crate}::{name}" for name in structs if re.search(rf"\b{name}\b", "".join(signatures.values()))}
         needed |= {f"{crate}::{name}" for name in re.findall(r"^pub const (\w+)", code, re.M)}
-    lines = re.sub(r"//.*", "", texts("dip/src/**/*.rt")).split("\n")
-    offered = {re.sub(r"^pub use (\w+::\w+);$", r"\1", line) for line in lines if line.strip()}
+    text = re.sub(r"//.*", "", texts("dip/src/**/*.rt")).replace("#![tactic(auto)]", "")
+    offered = {name for item in text.split(";") if item.strip() for name in used(item.strip())}
     yield from (f"dip offers what is no printed call of the dip: {more}" for more in sorted(offered - needed))
     yield from (f"dip does not pass on: {less}" for less in sorted(needed - offered))
 

@@ -5,13 +5,13 @@ import re
 import sys
 
 USE = re.compile(r"^(?P<head>(?:ghost )?use [^{;\n]*\.\{)(?P<names>[^}]*)(?P<tail>\};?)$", re.M)
-LETTER = r"[\w\-\u2032\u00b7?\u2080-\u2089]"
+LETTER = r"[\w\-'?\u2080-\u2089]"
 
 
 def used(name, text):
-    """Whether a name, or every part of an operator, stands in the text, other than as a field."""
-    parts = [p for p in name.split(" as ")[-1].strip().split("_") if p] if name.startswith("_") or name.endswith("_") else [name.split(" as ")[-1]]
-    return all(re.search(rf"(?<!{LETTER})(?<! \.){re.escape(p)}(?!{LETTER})", text) for p in parts)
+    """Whether a name, or every part of an operator such as `◌≡◌`, stands in the text, other than as a field."""
+    parts = [p for p in name.split(" as ")[-1].strip().split("◌") if p]
+    return all(re.search(rf"(?<!{LETTER})(?<!\.){re.escape(p)}(?!{LETTER})", text) for p in parts)
 
 
 def unused(file):
@@ -36,7 +36,7 @@ def without(text, found):
 
 def main():
     count = 0
-    for file in sorted(f for pattern in ("*.antt", "*.rt") for f in pathlib.Path("crates").rglob(pattern)):
+    for file in sorted(f for pattern in ("*.antt", "*.rt") for f in pathlib.Path("crates").rglob(pattern) if "out" not in f.parts):
         text, found = unused(file)
         count += len(found)
         if found and "--drop" in sys.argv:

@@ -1,3 +1,4 @@
+-- The proof that `bench::repeat32` meets its contract.
 use Rattle.std.proofs.Common.{ℕ, List, get_or, ap, arith}
 use Rattle.keccak.specs.Permutes.{permuted}
 use Rattle.bench.proofs.Turns.{turned_more, turned_all}

@@ -1,3 +1,4 @@
+-- The proof that `bench::over_river::river_wrap` meets its contract.
 use Rattle.std.proofs.Common.{ap, ◌∙◌, arith}
 use Rattle.calls.specs.Outcome.{Outcome}
 use Rattle.river.specs.declared.Session.{Session}

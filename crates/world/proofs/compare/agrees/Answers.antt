@@ -1,4 +1,4 @@
--- The loop: the digits passed are those of the bytes passed. A byte more is `hex-more`, the end `hex-all`.
+-- The loop: the digits passed are those of the bytes passed. A byte more is `hex_more`, the end `hex_all`.
 use Rattle.std.proofs.Common.{sym, arith, refl}
 use Rattle.world.specs.Hex.{hex_of}
 use Rattle.world.proofs.Digits.{hex_more}

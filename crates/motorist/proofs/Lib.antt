@@ -17,4 +17,4 @@ pub mod Story
 pub mod Prefix
 pub mod Shape
 pub mod Keyak
-pub mod Examples
+pub mod Worked

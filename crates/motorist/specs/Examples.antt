@@ -1,4 +1,4 @@
--- What the proved set is computed on: 01's plans B1 to B13 and the key pack, beside what 01 states, at whole blocks. proofs/Examples.antt computes both sides.
+-- What the proved set is computed on: 01's plans B1 to B13 and the key pack, beside what 01 states, at whole blocks. proofs/Worked.antt computes both sides.
 -- Only lengths matter to a plan, so keys, nonces, texts and metadata are sevens, and the permutation changes nothing.
 use Rattle.std.specs.Prelude.{ℕ, Bool, true, false, List, [], ◌∷◌, map, length, drop, replicate}
 use Rattle.motorist.specs.Instance.{Instance, state_length, text_rate, full_rate, chain_length, pack_length, lake, river}

@@ -217,7 +217,7 @@ def main():
     root, wrong = pathlib.Path("."), 0
     said = {f"{found[1]}/{found[2]}": found[3] for line in pathlib.Path(sys.argv[1]).read_text(errors="replace").splitlines() if (found := TOLD.match(line))}
     tried = [(crate, edit.stem) for crate in crates(root, sys.argv[2:]) for edit in sorted((root / "crates" / crate / "must-fail").glob("*.edit"))]
-    with concurrent.futures.ThreadPoolExecutor() as pool:
+    with concurrent.futures.ThreadPoolExecutor(4) as pool:
         for (crate, label), (right, words) in zip(tried, pool.map(lambda it: judge(root, *it, said), tried)):
             print(f"must-fail {crate}/{label}: {words if right else f'NOT AS NAMED: {words}'}", flush=True)
             wrong += not right

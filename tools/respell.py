@@ -134,6 +134,8 @@ def turn_rust(text, renames):
 
 
 def main():
+    if os.path.exists(os.path.join(TOP, "docs", "PORT.md")):
+        sys.exit("this was done: docs/PORT.md has each name as it was and as it is")
     renames, kinds = plan()
     if "--list" in sys.argv:
         for a in sorted(renames):

@@ -6,8 +6,8 @@ error comes behind it: a function is told after those that it calls, a law after
 (src/ or specs/, comments aside), the fact stands in the unedited crate, and the edit leaves the proof of that fact as it is: the answers and invariants
 of the function, or the lines of the law from its signature on, not the rest of its file. Whether a changed proof is right for harmless code cannot be
 told from what rt says: MENDED lists these edits with why.
-python3 tests/falls.py SAID [NAME...], SAID the file of what `rt ci` or `rt must-fail` said, with names for the edits of those crates and of what they
-stand on, says of each edit where it falls, and leaves with 1 where that is not what it names."""
+python3 tests/falls.py SAID [NAME...], SAID the file of what `rt ci` said, or `rt must-fail` without names, with names for the edits of those crates and of what they
+stand on (as `rt ci NAME...` tries them), says of each edit where it falls, and leaves with 1 where that is not what it names."""
 import concurrent.futures
 import pathlib
 import re
@@ -25,7 +25,8 @@ UNPROVED = re.compile(r"note: (?:\./)?(?P<file>src/[^:\s]+):(?P<line>\d+):(?P<co
 NAME = r"is not in scope|that can be named from here|has no field `|no module is found by|exports no such name|was not admitted"
 PROOFS = ("Answers.antt", "Invariants.antt", "Proof.antt")
 # The edits that change the proof of the very fact that they name, each with how that proof was seen to be right.
-MENDED = {}
+HARMLESS = "with a helper that leaves the tag alone, the same proof text was seen to be proved"
+MENDED = {"lake/refused-wrap-writes": HARMLESS, "river/refused-start-writes": HARMLESS}
 
 
 def code(folder):

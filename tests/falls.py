@@ -1,11 +1,10 @@
 """Where the must-fail edits fall. The second line of an edit is `falls: PLACE FACT`. PLACE is a function with its modules, as `lake::wrap`, or the file
 of a law, as `calls/proofs/Story.antt`; FACT is what is not proved there, a goal of the function (`returns`, `loop-i-preserved`) or the law. Once rt has
-tried the edits, this reads what rt said of each: the first error that the check came to, but for proofs that only name what the edit took away. It must
-be that fact. And every function that the edit adds must be proved: of such an edit the added functions are checked here, alone. (What follows from another
-error comes behind it: a function is told after those that it calls, a law after those that it cites.) Of the edit itself: it changes code or a definition
-(src/ or specs/, comments aside), the fact stands in the unedited crate, and the edit leaves the proof of that fact as it is: the answers and invariants
-of the function, or the lines of the law from its signature on, not the rest of its file. Whether a changed proof is right for harmless code cannot be
-told from what rt says: MENDED lists these edits with why.
+refused the edits, this checks each crate with its edit once more, in a copy, for rt tells of an edit one line alone, and passes over what only names
+something that is gone. The first error of the whole log that does not follow from another one must be that fact; a name that is missing is never one; and
+every function that the edit adds must be proved. Of the edit itself: it changes code or a definition (src/ or specs/, comments aside), the fact stands in
+the unedited crate, and the edit leaves the proof of that fact as it is: the answers and invariants of the function, or the lines of the law from its
+signature on, not the rest of its file. Whether a changed proof is right for harmless code cannot be told from a log: MENDED lists these edits with why.
 python3 tests/falls.py SAID [NAME...], SAID the file of what `rt ci` said, or `rt must-fail` without names, with names for the edits of those crates and of what they
 stand on (as `rt ci NAME...` tries them), says of each edit where it falls, and leaves with 1 where that is not what it names."""
 import concurrent.futures
@@ -21,8 +20,11 @@ import edits
 TOLD = re.compile(r"(?:rt: )?must-fail (\w+)/(\S+)\.edit: (.*)")
 REFUSED = "refused, as it must be: "
 ERROR = re.compile(r"(?:\./)?(?P<file>[^:\s]+):\d+:\d+: error: (?:`(?P<fact>[^`]+)`: )?(?P<words>.*)")
-UNPROVED = re.compile(r"note: (?:\./)?(?P<file>src/[^:\s]+):(?P<line>\d+):(?P<column>\d+): .*?(?:not proved|not shown) that .*?\(`(?P<fact>[^`]+)`\)")
-NAME = r"is not in scope|that can be named from here|has no field `|no module is found by|exports no such name|was not admitted"
+UNPROVED = re.compile(r"fn (?P<function>\S+): no proof: expected answers in [^;]+; `search` did not prove `(?P<fact>[^`]+)`")
+CALLS = re.compile(r"fn \S+: (?:not proved;|no proof:)(?: expected answers in [^;]+;)? it calls [^;]+, which (?:is|are) not proved")
+UNREAD = re.compile(r"\w+ \S+: (?:no proof|not proved)|(?:\S+:\d+: )?error\b")
+FOLLOWS = re.compile(r"\d+ declarations? that depends? on `[^`]+`, which was (?:not admitted|rejected), (?:was|were) not checked")
+NAME = r"is not in scope|that can be named from here|has no field `|no module is found by|exports no such name"
 PROOFS = ("Answers.antt", "Invariants.antt", "Proof.antt")
 # The edits that change the proof of the very fact that they name, each with how that proof was seen to be right.
 HARMLESS = "with a helper that leaves the tag alone, the same proof text was seen to be proved"
@@ -35,37 +37,19 @@ def code(folder):
     return {file.relative_to(folder): re.sub(r"(//|--).*", "", file.read_text()).split() for file in files}
 
 
-def blanked(text):
-    """The text with its comments as blanks, every place as it was."""
-    return re.sub(r"//[^\n]*|/\*.*?\*/", lambda found: re.sub(r"[^\n]", " ", found[0]), text, flags=re.DOTALL)
-
-
-def begun(folder):
-    """Each function of a crate's folder: its file, where it begins there, and its name below the crate."""
+def functions(crate, folder):
+    """The functions of a crate's folder, as the check names them: with the crate and the module."""
     for file in sorted(folder.glob("src/**/*.rt")):
         inside = file.relative_to(folder / "src").with_suffix("").parts
         modules = [part for part in inside if part not in ("lib", "main", "mod")]
-        for found in re.finditer(r"\b(?:pub\s+)?fn\s+(\w+)\s*[(<]", blanked(file.read_text())):
-            yield file.relative_to(folder).as_posix(), found.start(), "::".join([*modules, found[1]])
-
-
-def functions(crate, folder):
-    """The functions of a crate's folder, as the check names them: with the crate and the module."""
-    return [f"{crate}::{name}" for _, _, name in begun(folder)]
+        for name in re.findall(r"\bfn\s+(\w+)\s*[(<]", re.sub(r"//[^\n]*|/\*.*?\*/", " ", file.read_text(), flags=re.DOTALL)):
+            yield "::".join([crate, *modules, name])
 
 
 def place(crate, file):
     """The function whose proof it is, or the file of a law."""
     function = re.fullmatch(rf"proofs/(.+)/(?:{'|'.join(PROOFS)})", file)
     return "::".join([crate, *function[1].split("/")]) if function else f"{crate}/{file}"
-
-
-def around(crate, folder, file, line, column):
-    """The function in which a place of a source file lies."""
-    lines = (folder / file).read_text().split("\n")
-    at = sum(len(it) + 1 for it in lines[:line - 1]) + column - 1
-    before = [name for where, start, name in begun(folder) if where == file and start <= at]
-    return f"{crate}::{before[-1]}" if before else None
 
 
 def declaration(lines, name):
@@ -118,22 +102,23 @@ def stands(root, crate, where, fact):
     return any(declaration(lines, fact) is not None for _, lines in answers or []) or fact in goals(root, crate, where)
 
 
-def first_error(crate, folder, words):
-    """The first error: its place, its fact, and what is wrong with it where it is no fact."""
-    if not words.startswith(REFUSED):
-        return None, None, "it is not refused at a fact"
-    line = words.removeprefix(REFUSED)
-    made, error = UNPROVED.match(line), ERROR.match(line)
-    if made:
-        return around(crate, folder, made["file"], int(made["line"]), int(made["column"])), made["fact"], None
-    if not error:
-        return None, None, "no fact: a line that is not understood"
-    where, fact = place(crate, error["file"]), error["fact"]
-    if re.search(NAME, error["words"]):
-        return where, fact, "a name is missing"
-    if not fact or error["file"].startswith("src/"):
-        return where, fact, "no fact: the text is not read"
-    return where, fact, None
+def first_error(crate, lines):
+    """The first error that does not follow from another one: its place, its fact, what is wrong with it where it is no fact, and its line."""
+    for at, line in enumerate(lines):
+        made, error = UNPROVED.match(line), ERROR.match(line)
+        if made:
+            return made["function"], made["fact"], None, line
+        if error and not FOLLOWS.match(error["words"]):
+            where, fact = place(crate, error["file"]), error["fact"]
+            words = error["words"] + "".join(more for more in lines[at + 1:at + 2] if more.startswith("  "))
+            if re.search(NAME, words):
+                return where, fact, "a name is missing", line
+            if not fact or error["file"].startswith("src/"):
+                return where, fact, "no fact: the text is not read", line
+            return where, fact, None, line
+        if not error and UNREAD.match(line) and not CALLS.fullmatch(line):
+            return None, None, "no fact: a line that is not understood", line
+    return None, None, "no error", ""
 
 
 def wrong_fact(root, folder, crate, label, where, fact):
@@ -149,10 +134,8 @@ def wrong_fact(root, folder, crate, label, where, fact):
     return None
 
 
-def unproved(root, folder, added):
-    """Which of the functions that an edit adds to the crate in the folder are not proved, by a check of each in a copy of the repository."""
-    if not added:
-        return []
+def checked(root, folder):
+    """What a check says of the crate in the folder, line by line, in a copy of the repository beside what its other crates were built to."""
     with tempfile.TemporaryDirectory() as room:
         copy = pathlib.Path(room)
         (copy / "crates").mkdir()
@@ -168,7 +151,8 @@ def unproved(root, folder, added):
             shutil.rmtree(to / part, ignore_errors=True)
             if (folder / part).is_dir():
                 shutil.copytree(folder / part, to / part)
-        return [name for name in added if subprocess.run(["rt", "check", "--only", name], cwd=to, capture_output=True, check=False).returncode]
+        told = subprocess.run(["rt", "check"], cwd=to, capture_output=True, text=True, errors="replace", check=False)
+        return (told.stdout + told.stderr).splitlines()
 
 
 def judge(root, crate, label, said):
@@ -192,15 +176,20 @@ def judge(root, crate, label, said):
             (folder / file).write_text(text)
         if code(folder) == code(before):
             return False, "it changes nothing under src/ or specs/"
-        where, fact, wrong = first_error(crate, folder, words)
+        if not words.startswith(REFUSED):
+            return False, f"rt does not say that it is refused at a fact: {words[:400]}"
+        lines = checked(root, folder)
+        logged = {line.split(": ")[0].removeprefix("fn ") for line in lines if line.startswith("fn ")}
+        added = logged.union(functions(crate, folder)) - set(functions(crate, before))
+        bare = sorted(name for name in added if f"fn {name}: proved" not in lines)
+        if bare:
+            return False, f"a function of its own is not proved: {', '.join(bare)}"
+        where, fact, wrong, line = first_error(crate, lines)
         if wrong or f"{where} {fact}" != named[1]:
-            return False, f"{wrong or f'it falls at {where} {fact}'}, and names {named[1]}; rt said: {words[:400]}"
+            return False, f"{wrong or f'it falls at {where} {fact}'}, and names {named[1]}; the first error: {line[:400]}"
         wrong, why = wrong_fact(root, folder, crate, label, where, fact), MENDED.get(f"{crate}/{label}")
         if wrong:
             return False, wrong
-        bare = unproved(root, folder, sorted(set(functions(crate, folder)) - set(functions(crate, before))))
-        if bare:
-            return False, f"a function of its own is not proved: {', '.join(bare)}"
         return True, f"falls at {where} {fact}, as it names" + (f" (it changes that proof: {why})" if why else "")
 
 

@@ -1,4 +1,5 @@
-"""Made-up edits, and what rt says of them, for tests/falls.py, one for each way to fall: python3 tests/falls_cases.py leaves with 1 where one is judged wrongly."""
+"""Made-up edits, what rt says of them and logs of their checks, for tests/falls.py, one for each way to fall: python3 tests/falls_cases.py leaves with 1 where
+one is judged wrongly."""
 import pathlib
 import sys
 import tempfile
@@ -27,7 +28,6 @@ ELSEWHERE = {"proofs/Laws.antt": [("use {laws}", "use {laws, more}")]}
 WITH_HELPER = {"src/lib.rt": [("    n", "    0"), ("fn above", "fn helper(n: u8) -> u8 { n } /* its own */ fn above")]}
 APART = {"src/lib.rt": [("    n", "    0"), ("fn above", "fn  helper (n: u8) -> u8 { n } fn above")]}
 HIDDEN = {"src/lib.rt": [("    n", "    0"), ("fn above", "fn /* its own */ helper(n: u8) -> u8 { n } fn above")]}
-UNSAID = {"src/lib.rt": [("    n", "    0"), ("fn above", "fn bare(n: u8) -> u8 { n } fn above")]}
 GONE = {"src/lib.rt": [("    m", "    0")]}
 
 
@@ -36,45 +36,49 @@ def with_laws(old, new):
     return {**DEFINED, "proofs/Laws.antt": [(old, new)]}
 
 
-R = falls.REFUSED
-FACT = f"{R}./proofs/wrap/Answers.antt:5:13: error: `returns`: the two types differ"
-LOOPS = f"{R}./proofs/wrap/Invariants.antt:5:13: error: `loop-i-preserved`: the two types differ"
-LAW = f"{R}./proofs/Laws.antt:5:13: error: `law`: the two types differ"
-HOLDS = "it is not proved that what the function ensures holds when it returns"
-MADE = f"{R}note: src/inner.rt:2:1: {HOLDS} (`returns-2`); `search` gave up at one of its limits"
-INSIDE = f"{R}note: src/lib.rt:4:5: it is not proved that the invariant of the loop holds (`loop-i-preserved`)"
-ABOVE = f"{R}note: src/lib.rt:6:1: {HOLDS} (`returns`); the facts known there allow values at wh"
-BEHIND = f"{R}note: src/lib.rt:6:46: {HOLDS} (`returns`)"
-HELPER = f"{R}note: src/lib.rt:6:1: {HOLDS} (`returns`)"
-CUT = f"{R}note: src/lib.rt:6:1: it is not proved that so much is said of it that its name is no longer there (`ret"
-NO_NEED = f"{R}./proofs/wrap/Answers.antt:5:11: error: `returns`: `goal.returns`: module `T` has no `returns` that can be named from here"
-NO_NAME = f"{R}./proofs/Laws.antt:5:13: error: `law`: `laww` is not in scope; did you mean `law`?"
-NO_MODULE = f"{R}./proofs/Laws.antt:1:9: error: module `Rattle.one.specs` has no `Lawss` that can be named from here"
-NO_FIELD = f"{R}./proofs/wrap/Answers.antt:5:13: error: `returns`: record `Lts.Start` has no field `called`"
-FOLLOWS = f"{R}./proofs/above/Answers.antt:9:1: error: 2 declarations that depend on `close`, which was not admitted, were not checked"
-CONTRACT = f"{R}src/lib.rt:3:5: error: `ensures-1`: the two types differ"
-UNREAD = f"{R}./proofs/Laws.antt:5:1: error: this line starts at column 1"
-OWN_LAW, LAWS_TOLD = LAW.replace("`law`", "`helper`"), LAW.replace("`law`", "`laws`")
-NEVER = FACT.replace("`returns`", "`loop-again`")
+# What rt says of an edit, and lines of the log of its check.
+R = f"{falls.REFUSED}./proofs/wrap/Answers.antt:5:13: error: `returns`: the two types differ"
 ONLY_NAMES = "refused, as it must be (only because a proof file names what the edit took away, so this says little of the contract: change a value and keep the names): ./proofs/wrap/Answers.antt:5:13: error: `returns`: record `Lts.Start` has no field `called`"
 LIMIT = "refused, as it must be (only by a limit of the prover, which gave no verdict, so this says less of the contract: choose a change that it refuses sooner): ./proofs/Laws.antt:5:13: error: `law`: antt ran out of stack"
-BARE, BAD, MISSED, UNTRIED = "refused, as it must be", "BAD EDIT: it changes nothing", "NOT REFUSED: the crate is still proved with this edit", "NOT TRIED: its check was killed"
+BARELY, BAD, MISSED, UNTRIED = "refused, as it must be", "BAD EDIT: it changes nothing", "NOT REFUSED: the crate is still proved with this edit", "NOT TRIED: its check was killed"
+FACT = "./proofs/wrap/Answers.antt:5:13: error: `returns`: the two types differ\n  expected type `a`, but this has type `b`\nfn one::wrap: not proved"
+LOOPS = "./proofs/wrap/Invariants.antt:5:13: error: `loop-i-preserved`: the two types differ"
+LAW = "note: no function with a body is declared\n./proofs/Laws.antt:5:13: error: `law`: the two types differ"
+NOTE = "note: src/lib.rt:6:1: it is not proved that what the function ensures holds when it returns (`returns`); `search` gave up at one of its limits"
+MADE = "fn one::inner::wrap: no proof: expected answers in ./proofs/inner/wrap/Answers.antt; `search` did not prove `returns-2`"
+TWO = "fn one::inner::wrap: no proof: expected answers in ./proofs/inner/wrap/Answers.antt; `search` did not prove `returns-2` and `returns`; it calls `one::above`, which is not proved"
+ABOVE = "fn one::above: no proof: expected answers in ./proofs/above/Answers.antt; `search` did not prove `returns`"
+FOLLOWS = "./proofs/above/Answers.antt:9:1: error: 2 declarations that depend on `close`, which was not admitted, were not checked: a, b"
+REJECTED = "./proofs/Laws.antt:9:1: error: 1 declaration that depends on `first`, which was rejected, was not checked: next"
+CALLS = "fn one::above: not proved; it calls `one::inner::wrap`, which is not proved\nfn one::wrap: no proof: it calls `one::a` and `one::b`, which are not proved"
+NO_NEED = "./proofs/wrap/Answers.antt:5:11: error: `returns`: `goal.returns`: module `T` has no `returns` that can be named from here"
+NO_NAME = "./proofs/Laws.antt:5:13: error: `law`: `laww` is not in scope; did you mean `law`?"
+NO_MODULE = "./proofs/Laws.antt:1:9: error: module `Rattle.one.specs` has no `Lawss` that can be named from here"
+NO_FIELD = "./proofs/wrap/Answers.antt:5:13: error: `returns`: record `Lts.Start`\n  has no field `called`"
+CONTRACT = "src/lib.rt:3:5: error: `ensures-1`: the two types differ"
+UNREAD = "./proofs/Laws.antt:5:1: error: this line starts at column 1"
+NO_PROOF = "fn one::above: no proof: its contract is not read"
+BOTH = "fn one::above: no proof: it calls `one::inner::wrap`, which is not proved; and more"
+BARE, TYPE = "fn one::above: not proved", "struct one::Pair: not proved"
+ELSEWHERE_ERROR = "../two/proofs/Laws.antt:5:1: error: `law`: the two types differ"
+OWN_LAW, LAWS_TOLD = LAW.replace("`law`", "`helper`"), LAW.replace("`law`", "`laws`")
+NEVER = FACT.replace("`returns`", "`loop-again`")
+HELPED = "fn one::helper: proved"
+UNHELPED = "fn one::helper: no proof: expected answers in ./proofs/helper/Answers.antt; `search` did not prove `returns`"
 
-# (what is tried, the edit's second line, what rt says or None, the files that the edit changes, what is said of it, and its label where that counts)
+# (what is tried, the edit's second line, the log of its check, the files that the edit changes, what is said of it, and its label where that counts)
 FALLS = "as it names"
 AT_WRAP, AT_LAW, AT_INNER = "falls: one::wrap returns", "falls: one/proofs/Laws.antt law", "falls: one::inner::wrap returns-2"
-NO_FACT = "it is not refused at a fact"
 CASES = [
     ("a goal of a function", AT_WRAP, FACT, EDIT, FALLS),
     ("a goal of a loop", "falls: one::wrap loop-i-preserved", LOOPS, EDIT, FALLS),
     ("a law", AT_LAW, LAW, DEFINED, FALLS),
-    ("a goal that rattle tries alone", AT_INNER, MADE, EDIT, FALLS),
-    ("a goal that rattle tries alone, inside the function", "falls: one::wrap loop-i-preserved", INSIDE, EDIT, FALLS),
-    ("a goal that rattle tries alone, of the function behind", "falls: one::above returns", ABOVE, EDIT, FALLS),
-    ("a goal that rattle tries alone, of the function behind one in the same line", "falls: one::above returns", BEHIND, WITH_HELPER, FALLS),
-    ("a goal that rattle tries alone, of the one before in the same line", "falls: one::above returns", HELPER, WITH_HELPER, "it falls at one::helper returns"),
-    ("a goal that rattle tries alone, its name cut off", "falls: one::above returns", CUT, EDIT, "not understood"),
-    ("beside a helper that is proved", AT_WRAP, FACT, WITH_HELPER, FALLS),
+    ("a goal that rattle tries alone, behind what follows from it", AT_INNER, f"{NOTE}\n{FOLLOWS}\n{CALLS}\n{MADE}", EDIT, FALLS),
+    ("the first of two goals", AT_INNER, TWO, EDIT, FALLS),
+    ("behind a law that was not checked", AT_WRAP, f"{REJECTED}\n{FACT}", EDIT, FALLS),
+    ("beside a helper that is proved", AT_WRAP, f"{FACT}\n{HELPED}", WITH_HELPER, FALLS),
+    ("before a name that is missing", AT_LAW, f"{LAW}\n{NO_NAME}", EDIT, FALLS),
+    ("behind the named one a line that is not understood", AT_WRAP, f"{FACT}\n{NO_PROOF}\n{BARE}", EDIT, FALLS),
     ("a law beside one that is mended", AT_LAW, LAW, with_laws("first = refl", "first = sym refl"), FALLS),
     ("a law before one that is mended", AT_LAW, LAW, with_laws("next = law", "next = sym law"), FALLS),
     ("beside another file of proofs", AT_WRAP, FACT, {**EDIT, **ELSEWHERE}, FALLS),
@@ -82,24 +86,20 @@ CASES = [
     ("another function", "falls: one::unwrap returns", FACT, EDIT, "it falls at one::wrap returns"),
     ("another goal", "falls: one::wrap returns-2", FACT, EDIT, "it falls at one::wrap returns"),
     ("another law", "falls: one/proofs/Laws.antt other", LAW, EDIT, "it falls at one/proofs/Laws.antt law"),
-    ("another file", "falls: one::wrap returns", LAW, EDIT, "it falls at one/proofs/Laws.antt law"),
-    ("only what follows", "falls: one::above close", FOLLOWS, EDIT, "a name is missing"),
-    ("only names that are missing", AT_WRAP, ONLY_NAMES, EDIT, NO_FACT),
-    ("only a limit", AT_LAW, LIMIT, DEFINED, NO_FACT),
-    ("a name that is missing", "falls: one/proofs/Laws.antt law", NO_NAME, EDIT, "a name is missing"),
+    ("the named one comes second", AT_WRAP, f"{LAW}\n{FACT}", EDIT, "it falls at one/proofs/Laws.antt law"),
+    ("only what follows", "falls: one::above close", f"{FOLLOWS}\n{CALLS}", EDIT, "no error"),
+    ("a name that is missing", AT_LAW, NO_NAME, EDIT, "a name is missing"),
+    ("a name that is missing, before the named one", AT_WRAP, f"{NO_NAME}\n{FACT}", EDIT, "a name is missing"),
     ("a module that is missing", "falls: one/proofs/Laws.antt None", NO_MODULE, EDIT, "a name is missing"),
-    ("a goal that is missing", "falls: one::wrap returns", NO_NEED, EDIT, "a name is missing"),
-    ("a step that is missing", "falls: one::wrap returns", NO_FIELD, EDIT, "a name is missing"),
+    ("a goal that is missing", AT_WRAP, NO_NEED, EDIT, "a name is missing"),
+    ("a step that is missing", AT_WRAP, NO_FIELD, EDIT, "a name is missing"),
     ("a contract that says nothing", "falls: one/src/lib.rt ensures-1", CONTRACT, EDIT, "no fact"),
     ("a file that is not read", "falls: one/proofs/Laws.antt None", UNREAD, EDIT, "no fact"),
-    ("a helper that is not proved", AT_WRAP, FACT, UNSAID, "not proved: one::bare"),
+    ("a helper that is not proved", AT_WRAP, f"{FACT}\n{UNHELPED}", WITH_HELPER, "not proved: one::helper"),
+    ("a helper that is not mentioned", AT_WRAP, FACT, WITH_HELPER, "not proved: one::helper"),
     ("no `falls:`", "file: src/lib.rt", FACT, EDIT, "second line"),
     ("a place without a fact", "falls: one::wrap", FACT, EDIT, "second line"),
-    ("refused, and no more is said", AT_WRAP, BARE, EDIT, NO_FACT),
-    ("not refused", AT_WRAP, MISSED, EDIT, NO_FACT),
-    ("a bad edit", AT_WRAP, BAD, EDIT, NO_FACT),
-    ("not tried", AT_WRAP, UNTRIED, EDIT, NO_FACT),
-    ("nothing said", AT_WRAP, None, EDIT, "it was not tried"),
+    ("no error", AT_WRAP, "logic=proved", EDIT, "no error"),
     ("a text that is not there", AT_WRAP, FACT, GONE, "cannot be made"),
     ("only the proof is changed", AT_WRAP, FACT, OTHER_PROOF, "nothing under src/ or specs/"),
     ("only the proof is changed, and listed", AT_WRAP, FACT, OTHER_PROOF, "nothing under src/ or specs/", "listed"),
@@ -114,9 +114,28 @@ CASES = [
     ("a law that is only used", "falls: one/proofs/Laws.antt laws", LAWS_TOLD, DEFINED, "unedited crate"),
     ("a law in a file that the crate has not", "falls: one/proofs/New.antt law", LAW.replace("Laws", "New"), DEFINED, "unedited crate"),
     ("a goal that the unedited function has not", "falls: one::wrap loop-again", NEVER, EDIT, "unedited crate"),
-    ("a function that the crate has not", "falls: one::gone returns", FACT.replace("wrap", "gone"), EDIT, "unedited crate"),
-    ("a helper set apart, not proved", AT_WRAP, FACT, {"src/lib.rt": [(old, new.replace("helper", "bare")) for old, new in APART["src/lib.rt"]]}, "not proved: one::bare"),
-    ("a helper behind a comment, not proved", AT_WRAP, FACT, {"src/lib.rt": [(old, new.replace("helper", "bare")) for old, new in HIDDEN["src/lib.rt"]]}, "not proved: one::bare"),
+    ("a function that the crate has not", "falls: one::gone returns", FACT.replace("fn one::wrap: not proved", "").replace("wrap", "gone"), EDIT, "unedited crate"),
+    ("a helper set apart, not proved", AT_WRAP, f"{FACT}\n{UNHELPED}", APART, "not proved: one::helper"),
+    ("a helper set apart, not mentioned", AT_WRAP, FACT, APART, "not proved: one::helper"),
+    ("a helper that only the log shows", AT_WRAP, f"{FACT}\n{UNHELPED}", HIDDEN, "not proved: one::helper"),
+    ("ahead another function, found by `search`", AT_INNER, f"{ABOVE}\n{MADE}", EDIT, "it falls at one::above returns"),
+    ("ahead another function, for another reason", AT_INNER, f"{NO_PROOF}\n{MADE}", EDIT, "not understood"),
+    ("ahead another function, for a call and more", AT_INNER, f"{BOTH}\n{MADE}", EDIT, "not understood"),
+    ("ahead another function, without a reason", AT_INNER, f"{BARE}\n{MADE}", EDIT, "not understood"),
+    ("ahead a type that is not proved", AT_INNER, f"{TYPE}\n{MADE}", EDIT, "not understood"),
+    ("ahead an error elsewhere", AT_LAW, f"{ELSEWHERE_ERROR}\n{LAW}", EDIT, "it falls at one/../two/proofs/Laws.antt law"),
+    ("ahead an error without a place", AT_WRAP, f"error: a library is missing\n{FACT}", EDIT, "not understood"),
+]
+# What rt may say of an edit whose log is good: (what is tried, rt's words or None, what is said of it)
+WORDS = [
+    ("refused", R, FALLS),
+    ("refused, and no more is said", BARELY, "refused at a fact"),
+    ("only names that are missing", ONLY_NAMES, "refused at a fact"),
+    ("only a limit", LIMIT, "refused at a fact"),
+    ("not refused", MISSED, "refused at a fact"),
+    ("a bad edit", BAD, "refused at a fact"),
+    ("not tried", UNTRIED, "refused at a fact"),
+    ("nothing said", None, "it was not tried"),
 ]
 
 
@@ -125,22 +144,23 @@ def write(file, text):
     file.write_text(text)
 
 
-def judged(second, words, changed, label="edit"):
+def judged(second, words, log, changed, label="edit"):
     with tempfile.TemporaryDirectory() as room:
         root = pathlib.Path(room)
         for file, text in ONE.items():
             write(root / "crates/one" / file, text)
         lines = [line for file, pairs in changed.items() for old, new in pairs for line in (f"file: {file}", f"old: {old}", f"new: {new}")]
         write(root / f"crates/one/must-fail/{label}.edit", "\n".join(["What is wrong.", second, *lines]) + "\n")
+        falls.checked = lambda root, folder: (log + "\nlogic=not-proved").splitlines()
         return falls.judge(root, "one", label, {} if words is None else {f"one/{label}": words})
 
 
 wrong, falls.MENDED = [], {"one/listed": "seen to be right"}
 falls.goals = lambda root, crate, function: GOALS.get(function, [])
-falls.unproved = lambda root, folder, added: [name for name in added if name == "one::bare"]
-for tried, second, words, changed, said, *label in CASES:
-    right, told = judged(second, words, changed, *label)
+tried = [(what, said, judged(second, R, log, changed, *label)) for what, second, log, changed, said, *label in CASES]
+tried += [(what, said, judged(AT_WRAP, words, FACT, EDIT)) for what, words, said in WORDS]
+for what, said, (right, told) in tried:
     if right != (said == FALLS) or said not in told:
-        wrong.append(f"{tried}: {told}")
-print("\n".join(wrong) if wrong else f"{len(CASES)} made-up edits judged rightly")
+        wrong.append(f"{what}: {told}")
+print("\n".join(wrong) if wrong else f"{len(tried)} made-up edits judged rightly")
 sys.exit(1 if wrong else 0)

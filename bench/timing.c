@@ -47,7 +47,7 @@ static void expect(bool yes)
     exit(2);
 }
 
-/* ---- the answer whether a tag is right, told: valgrind calls these in place of the two functions that compare tags */
+/* ---- the answer whether a tag is right, told: valgrind calls this in place of the functions that compare tags */
 static bool told;
 
 #define TELL(function) \
@@ -60,8 +60,7 @@ uint64_t I_WRAP_SONAME_FNNAME_ZZ(NONE, function)(uint64_t lanes, uint64_t tag) \
     if (told) public(&right, sizeof right); \
     return right; \
 }
-TELL(lakeZcZctagsZcZctagZuis)    /* lake::tags::tag_is */
-TELL(riverZcZctagsZcZctagZuis)   /* river::tags::tag_is */
+TELL(keyakZcZctagsZcZctagZuisZa) /* keyak::tags::tag_is, at every type of lanes */
 
 /* ---- reports are made, and counted, between these two alone */
 static unsigned calls, fewest = UINT_MAX, most, before;

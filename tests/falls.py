@@ -1,12 +1,15 @@
-"""Where the must-fail edits fall. The second line of an edit is `falls: PLACE FACT`. PLACE is a function with its modules, as `lake::wrap`, or the file
-of a law, as `calls/proofs/Story.antt`; FACT is what is not proved there, a goal of the function (`returns`, `loop-i-preserved`) or the law. Once rt has
-refused the edits, this checks each crate with its edit once more, in a copy, for rt tells of an edit one line alone, and passes over what only names
-something that is gone. The first error of the whole log that does not follow from another one must be that fact; a name that is missing is never one; and
-every function that the edit adds must be proved. Of the edit itself: it changes code or a definition (src/ or specs/, comments aside), the fact stands in
-the unedited crate, and the edit leaves the proof of that fact as it is: the answers and invariants of the function, or the lines of the law from its
-signature on, not the rest of its file. Whether a changed proof is right for harmless code cannot be told from a log: MENDED lists these edits with why.
+"""Where the must-fail edits fall. The second line of an edit is `falls: PLACE FACT`. PLACE is a function as the check names it, with its modules and, of a
+method, its type or impl, as `keyak::work::seal`, `keyak::Session::wrap` and `endian::U64Little::load`, or the file of a law, as `calls/proofs/Story.antt`;
+FACT is what is not proved there, a goal of the function (`returns`, `loop-i-preserved`) or the law. Once rt has refused the edits, this checks each crate
+with its edit once more, in a copy, for rt tells of an edit one line alone, and passes over what only names something that is gone; and the crate as it
+stands, whose log says which functions it has. The first error of the whole log that does not follow from another one must be that fact; a name that is
+missing is never one; and every function that the edit adds, by the log or by the source, must be proved. Of the edit itself: it changes code or a
+definition (src/ or specs/, comments aside), the fact stands in the unedited crate, and the edit leaves the proof of that fact as it is: the answers and
+invariants of the function, or the lines of the law from its signature on, not the rest of its file. Whether a changed proof is right for harmless code
+cannot be told from a log: MENDED lists these edits with why.
 python3 tests/falls.py SAID [NAME...], SAID the file of what `rt ci` said, or `rt must-fail` without names, with names for the edits of those crates and of what they
 stand on (as `rt ci NAME...` tries them), says of each edit where it falls, and leaves with 1 where that is not what it names."""
+import collections
 import concurrent.futures
 import pathlib
 import re
@@ -22,13 +25,14 @@ REFUSED = "refused, as it must be: "
 ERROR = re.compile(r"(?:\./)?(?P<file>[^:\s]+):\d+:\d+: error: (?:`(?P<fact>[^`]+)`: )?(?P<words>.*)")
 UNPROVED = re.compile(r"fn (?P<function>\S+): no proof: expected answers in [^;]+; `search` did not prove `(?P<fact>[^`]+)`")
 CALLS = re.compile(r"fn \S+: (?:not proved;|no proof:)(?: expected answers in [^;]+;)? it calls [^;]+, which (?:is|are) not proved")
+WAITS = re.compile(r"(?:impl|trait) \S+: not proved; it waits for the proofs? of `[^`]+`(?:(?:,| and|, and) `[^`]+`)*")
 UNREAD = re.compile(r"\w+ \S+: (?:no proof|not proved)|(?:\S+:\d+: )?error\b")
 FOLLOWS = re.compile(r"\d+ declarations? that depends? on `[^`]+`, which was (?:not admitted|rejected), (?:was|were) not checked")
 NAME = r"is not in scope|that can be named from here|has no field `|no module is found by|exports no such name"
 PROOFS = ("Answers.antt", "Invariants.antt", "Proof.antt")
 # The edits that change the proof of the very fact that they name, each with how that proof was seen to be right.
 HARMLESS = "with a helper that leaves the tag alone, the same proof text was seen to be proved"
-MENDED = {"lake/refused-wrap-writes": HARMLESS, "river/refused-start-writes": HARMLESS}
+MENDED = {"keyak/refused-wrap-writes": HARMLESS, "keyak/refused-start-writes": HARMLESS}
 
 
 def code(folder):
@@ -37,13 +41,37 @@ def code(folder):
     return {file.relative_to(folder): re.sub(r"(//|--).*", "", file.read_text()).split() for file in files}
 
 
-def functions(crate, folder):
-    """The functions of a crate's folder, as the check names them: with the crate and the module."""
+def told(lines):
+    """The functions that a log tells of, as the check names them: with the crate, the modules and, of a method, its type or its impl."""
+    return {line.split(": ")[0].removeprefix("fn ") for line in lines if line.startswith("fn ")}
+
+
+def proved(lines):
+    """Those of them that are proved."""
+    return {name for name in told(lines) if f"fn {name}: proved" in lines}
+
+
+def written(crate, folder):
+    """How often a crate's folder has a function of a name, with the crate and the module. Which type or impl a method is of is not read here."""
+    names = collections.Counter()
     for file in sorted(folder.glob("src/**/*.rt")):
         inside = file.relative_to(folder / "src").with_suffix("").parts
         modules = [part for part in inside if part not in ("lib", "main", "mod")]
         for name in re.findall(r"\bfn\s+(\w+)\s*[(<]", re.sub(r"//[^\n]*|/\*.*?\*/", " ", file.read_text(), flags=re.DOTALL)):
-            yield "::".join([crate, *modules, name])
+            names["::".join([crate, *modules, name])] += 1
+    return names
+
+
+def unproved(more, lines, names):
+    """The functions of an edit's own that are not proved: those that its log tells of and the unedited crate's does not, and those that it writes (`more`), for
+    each of which the log must tell of another new one that is proved, in that module or in a type or an impl of it."""
+    new = told(lines) - names
+    bare = sorted(new - proved(lines))
+    for name, count in more.items():
+        module, last = name.rsplit("::", 1)
+        if sum(each.startswith(f"{module}::") and each.endswith(f"::{last}") for each in new & proved(lines)) < count:
+            bare.append(name)
+    return bare
 
 
 def place(crate, file):
@@ -91,13 +119,14 @@ def goals(root, crate, function):
         return re.findall(r"^pub (\S+) : ", file.read_text(), re.MULTILINE) if file.is_file() else []
 
 
-def stands(root, crate, where, fact):
-    """Whether the unedited crate has the fact: the law in its file, or the function, with the goal among its answers, or else among those that are found."""
+def stands(root, crate, names, where, fact):
+    """Whether the unedited crate has the fact: the law in its file, or the function, which its check proves, with the goal among its answers, or else among
+    those that are found."""
     folder = root / "crates" / crate
     answers = proof(folder, where, fact)
     if "::" not in where:
         return answers is not None
-    if where not in functions(crate, folder):
+    if where not in names:
         return False
     return any(declaration(lines, fact) is not None for _, lines in answers or []) or fact in goals(root, crate, where)
 
@@ -116,14 +145,14 @@ def first_error(crate, lines):
             if not fact or error["file"].startswith("src/"):
                 return where, fact, "no fact: the text is not read", line
             return where, fact, None, line
-        if not error and UNREAD.match(line) and not CALLS.fullmatch(line):
+        if not error and UNREAD.match(line) and not CALLS.fullmatch(line) and not WAITS.fullmatch(line):
             return None, None, "no fact: a line that is not understood", line
     return None, None, "no error", ""
 
 
-def wrong_fact(root, folder, crate, label, where, fact):
+def wrong_fact(root, folder, crate, label, names, where, fact):
     """What is wrong with the fact that an edit names, if anything: it is the edit's own, or its proof is."""
-    if not stands(root, crate, where, fact):
+    if not stands(root, crate, names, where, fact):
         return f"{where} {fact} does not stand in the unedited crate"
     changed = proof(root / "crates" / crate, where, fact) != proof(folder, where, fact)
     listed = f"{crate}/{label}" in MENDED
@@ -151,12 +180,12 @@ def checked(root, folder):
             shutil.rmtree(to / part, ignore_errors=True)
             if (folder / part).is_dir():
                 shutil.copytree(folder / part, to / part)
-        told = subprocess.run(["rt", "check"], cwd=to, capture_output=True, text=True, errors="replace", check=False)
-        return (told.stdout + told.stderr).splitlines()
+        ran = subprocess.run(["rt", "check"], cwd=to, capture_output=True, text=True, errors="replace", check=False)
+        return (ran.stdout + ran.stderr).splitlines()
 
 
-def judge(root, crate, label, said):
-    """Whether the edit falls at the fact that it names, and a line that says where it falls."""
+def judge(root, crate, label, said, names):
+    """Whether the edit falls at the fact that it names, and a line that says where it falls. `names`: the functions that the unedited crate's check proves."""
     before, edit = root / "crates" / crate, root / "crates" / crate / "must-fail" / f"{label}.edit"
     named = re.fullmatch(r"falls: (\S+ \S+)", "".join(edit.read_text().splitlines()[1:2]))
     if not named:
@@ -179,15 +208,13 @@ def judge(root, crate, label, said):
         if not words.startswith(REFUSED):
             return False, f"rt does not say that it is refused at a fact: {words[:400]}"
         lines = checked(root, folder)
-        logged = {line.split(": ")[0].removeprefix("fn ") for line in lines if line.startswith("fn ")}
-        added = logged.union(functions(crate, folder)) - set(functions(crate, before))
-        bare = sorted(name for name in added if f"fn {name}: proved" not in lines)
+        bare = unproved(written(crate, folder) - written(crate, before), lines, names)
         if bare:
             return False, f"a function of its own is not proved: {', '.join(bare)}"
         where, fact, wrong, line = first_error(crate, lines)
         if wrong or f"{where} {fact}" != named[1]:
             return False, f"{wrong or f'it falls at {where} {fact}'}, and names {named[1]}; the first error: {line[:400]}"
-        wrong, why = wrong_fact(root, folder, crate, label, where, fact), MENDED.get(f"{crate}/{label}")
+        wrong, why = wrong_fact(root, folder, crate, label, names, where, fact), MENDED.get(f"{crate}/{label}")
         if wrong:
             return False, wrong
         return True, f"falls at {where} {fact}, as it names" + (f" (it changes that proof: {why})" if why else "")
@@ -208,7 +235,9 @@ def main():
     said = {f"{found[1]}/{found[2]}": found[3] for line in pathlib.Path(sys.argv[1]).read_text(errors="replace").splitlines() if (found := TOLD.match(line))}
     tried = [(crate, edit.stem) for crate in crates(root, sys.argv[2:]) for edit in sorted((root / "crates" / crate / "must-fail").glob("*.edit"))]
     with concurrent.futures.ThreadPoolExecutor(4) as pool:
-        for (crate, label), (right, words) in zip(tried, pool.map(lambda it: judge(root, *it, said), tried)):
+        edited = sorted({crate for crate, _ in tried})
+        names = dict(zip(edited, pool.map(lambda crate: proved(checked(root, root / "crates" / crate)), edited)))
+        for (crate, label), (right, words) in zip(tried, pool.map(lambda it: judge(root, *it, said, names[it[0]]), tried)):
             print(f"must-fail {crate}/{label}: {words if right else f'NOT AS NAMED: {words}'}", flush=True)
             wrong += not right
     print(f"{len(tried) - wrong} of {len(tried)} edits fall at the fact that they name")

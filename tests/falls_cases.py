@@ -14,8 +14,26 @@ OPEN = "use {laws}\n\nmodule _ (n : ℕ) where\n  first : n ≡ n\n  first = ref
 LAWS = OPEN + "  pub law {ℓ} : n ≡ n\n  law =\n      first\n\n      ∙ refl\n\n  next : n ≡ n\n  next = law\n"
 ONE = {"src/lib.rt": CODE, "src/inner.rt": CODE, "specs/Spec.antt": "-- a definition\nspec = 1\n", "proofs/wrap/Answers.antt": PROOF,
        "proofs/wrap/Invariants.antt": LOOP, "proofs/Laws.antt": LAWS}
+# Its method, its impl of a trait of another crate and a trait of its own, and the proof of the method.
+TYPES = "// types\nimpl Thing {\n    fn wrap(self) -> u8 { 5 }\n}\nimpl Load for u8 {\n    fn load() -> u8 { 1 }\n}\npub trait Own {\n    fn due() -> u8;\n}\n"
+ONE |= {"src/types.rt": TYPES, "proofs/types/Thing/wrap/Answers.antt": "-- a proof\npub returns-in-Ok : goal.returns-in-Ok\nreturns-in-Ok c = refl\n"}
+# The log of its check.
+UNEDITED = """\
+struct one::types::Thing: proved
+impl one::types::U8Load: proved
+trait one::types::Own: proved
+fn one::wrap: proved
+fn one::above: proved
+fn one::fn::above::map+FnMut::call_mut: proved
+fn one::inner::wrap: proved
+fn one::inner::above: proved
+fn one::types::Thing::wrap: proved
+fn one::types::U8Load::load: proved
+fn one::types::U8Load::size: not proved
+logic=proved functions=6"""
 # What the check makes of its functions, where no answer says so.
-GOALS = {"one::wrap": ["returns", "returns-2", "loop-i-preserved"], "one::inner::wrap": ["returns", "returns-2"], "one::above": ["returns"]}
+GOALS = {"one::wrap": ["returns", "returns-2", "loop-i-preserved"], "one::inner::wrap": ["returns", "returns-2"], "one::above": ["returns"],
+         "one::types::U8Load::load": ["returns"], "one::types::U8Load::size": ["returns"], "one::types::Own::due": ["returns"]}
 
 
 # The replacements of made-up edits: for each file the old and the new texts.
@@ -28,6 +46,9 @@ ELSEWHERE = {"proofs/Laws.antt": [("use {laws}", "use {laws, more}")]}
 WITH_HELPER = {"src/lib.rt": [("    n", "    0"), ("fn above", "fn helper(n: u8) -> u8 { n } /* its own */ fn above")]}
 APART = {"src/lib.rt": [("    n", "    0"), ("fn above", "fn  helper (n: u8) -> u8 { n } fn above")]}
 HIDDEN = {"src/lib.rt": [("    n", "    0"), ("fn above", "fn /* its own */ helper(n: u8) -> u8 { n } fn above")]}
+METHOD = {"src/types.rt": [("{ 5 }", "{ 0 }")]}
+WITH_METHOD = {"src/types.rt": [("impl Thing {", "impl Thing { fn helper() -> u8 { 1 }"), ("{ 5 }", "{ 0 }")]}
+NAMED_ALIKE = {"src/types.rt": [("impl Thing {", "impl Other { fn wrap(self) -> u8 { 1 } } impl Thing {"), ("{ 5 }", "{ 0 }")]}
 GONE = {"src/lib.rt": [("    m", "    0")]}
 
 
@@ -66,6 +87,15 @@ NEVER = FACT.replace("`returns`", "`loop-again`")
 HELPED = "fn one::helper: proved"
 UNHELPED = "fn one::helper: no proof: expected answers in ./proofs/helper/Answers.antt; `search` did not prove `returns`"
 
+AT_METHOD, AT_IMPL = "falls: one::types::Thing::wrap returns-in-Ok", "falls: one::types::U8Load::load returns"
+OF_METHOD = "./proofs/types/Thing/wrap/Answers.antt:3:19: error: `returns-in-Ok`: the two types differ\nfn one::types::Thing::wrap: not proved"
+OF_IMPL = "fn one::types::U8Load::load: no proof: expected answers in ./proofs/types/U8Load/load/Answers.antt; `search` did not prove `returns`"
+WAITS = "impl one::types::U8Load: not proved; it waits for the proof of `load`\nimpl one::types::Pair: not proved; it waits for the proof of `a`, `b` and `c`"
+NO_IMPL, WAITS_AND_MORE = "impl one::types::U8Load: not proved", WAITS.splitlines()[0] + "; and more"
+CLOSURE = "fn one::fn::above::map+FnMut::call_mut: no proof: it calls `one::wrap`, which is not proved"
+METHOD_HELPED = "fn one::types::Thing::helper: proved"
+METHOD_UNHELPED = "fn one::types::Thing::helper: no proof: expected answers in ./proofs/types/Thing/helper/Answers.antt; `search` did not prove `returns`"
+
 # (what is tried, the edit's second line, the log of its check, the files that the edit changes, what is said of it, and its label where that counts)
 FALLS = "as it names"
 AT_WRAP, AT_LAW, AT_INNER = "falls: one::wrap returns", "falls: one/proofs/Laws.antt law", "falls: one::inner::wrap returns-2"
@@ -83,6 +113,25 @@ CASES = [
     ("a law before one that is mended", AT_LAW, LAW, with_laws("next = law", "next = sym law"), FALLS),
     ("beside another file of proofs", AT_WRAP, FACT, {**EDIT, **ELSEWHERE}, FALLS),
     ("a changed proof that is listed", AT_WRAP, FACT, {**EDIT, **OTHER_PROOF}, FALLS, "listed"),
+    ("a goal of a method", AT_METHOD, OF_METHOD, METHOD, FALLS),
+    ("a goal of an impl's method, behind what waits for it", AT_IMPL, f"{WAITS}\n{OF_IMPL}", METHOD, FALLS),
+    ("beside a method that is proved", AT_METHOD, f"{OF_METHOD}\n{METHOD_HELPED}", WITH_METHOD, FALLS),
+    ("beside a method of a name that there is, proved", AT_METHOD, f"{OF_METHOD}\nfn one::types::Other::wrap: proved", NAMED_ALIKE, FALLS),
+    ("a method, named without its type", "falls: one::types::wrap returns-in-Ok", OF_METHOD, METHOD, "it falls at one::types::Thing::wrap returns-in-Ok"),
+    ("a method, named with another type", "falls: one::types::Other::wrap returns-in-Ok", OF_METHOD, METHOD, "it falls at one::types::Thing::wrap returns-in-Ok"),
+    ("a method that the crate has not", "falls: one::types::Other::wrap returns-in-Ok", OF_METHOD.replace("Thing", "Other").splitlines()[0], METHOD, "unedited crate"),
+    ("a method that the unedited crate does not prove", AT_IMPL.replace("load", "size"), OF_IMPL.replace("load", "size"), METHOD, "not proved: one::types::U8Load::size"),
+    ("a method that is only asked for", "falls: one::types::Own::due returns", OF_IMPL.replace("U8Load/load", "Own/due").replace("U8Load::load", "Own::due"), METHOD, "not proved: one::types::Own::due"),
+    ("a method's goal that it has not", AT_METHOD.replace("in-Ok", "in-No"), OF_METHOD.replace("in-Ok", "in-No"), METHOD, "unedited crate"),
+    ("a helping method that is not proved", AT_METHOD, f"{OF_METHOD}\n{METHOD_UNHELPED}", WITH_METHOD, "not proved: one::types::Thing::helper"),
+    ("a helping method that is not mentioned", AT_METHOD, OF_METHOD, WITH_METHOD, "not proved: one::types::helper"),
+    ("a helping method that is proved elsewhere", AT_METHOD, f"{OF_METHOD}\nfn one::inner::helper: proved", WITH_METHOD, "not proved: one::types::helper"),
+    ("a method of a name that there is, not mentioned", AT_METHOD, OF_METHOD, NAMED_ALIKE, "not proved: one::types::wrap"),
+    ("ahead an impl without a reason", AT_IMPL, f"{NO_IMPL}\n{OF_IMPL}", METHOD, "not understood"),
+    ("ahead an impl that waits, and more", AT_IMPL, f"{WAITS_AND_MORE}\n{OF_IMPL}", METHOD, "not understood"),
+    ("beside a closure that waits", AT_WRAP, f"{FACT}\n{CLOSURE}", EDIT, FALLS),
+    ("beside a closure of the edit's own that waits", AT_WRAP, f"{FACT}\n{CLOSURE.replace('map', 'filter')}", EDIT, "not proved: one::fn::above::filter"),
+    ("beside a closure of a helper's that waits", AT_WRAP, f"{FACT}\n{HELPED}\n{CLOSURE.replace('above', 'helper')}", WITH_HELPER, "not proved: one::fn::helper::map"),
     ("another function", "falls: one::unwrap returns", FACT, EDIT, "it falls at one::wrap returns"),
     ("another goal", "falls: one::wrap returns-2", FACT, EDIT, "it falls at one::wrap returns"),
     ("another law", "falls: one/proofs/Laws.antt other", LAW, EDIT, "it falls at one/proofs/Laws.antt law"),
@@ -152,7 +201,7 @@ def judged(second, words, log, changed, label="edit"):
         lines = [line for file, pairs in changed.items() for old, new in pairs for line in (f"file: {file}", f"old: {old}", f"new: {new}")]
         write(root / f"crates/one/must-fail/{label}.edit", "\n".join(["What is wrong.", second, *lines]) + "\n")
         falls.checked = lambda root, folder: (log + "\nlogic=not-proved").splitlines()
-        return falls.judge(root, "one", label, {} if words is None else {f"one/{label}": words})
+        return falls.judge(root, "one", label, {} if words is None else {f"one/{label}": words}, falls.proved(UNEDITED.splitlines()))
 
 
 wrong, falls.MENDED = [], {"one/listed": "seen to be right"}

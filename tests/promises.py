@@ -1,5 +1,6 @@
-"""docs/PROMISES.md names only what there is: files, theorems, contracts and must-fail edits; it names every edit; and it prints the contract of
-every public call as it stands in the code, where none has a `requires`; and `dip` passes on just the dip's calls printed there, their structs and the public constants. python3 tests/promises.py leaves with 1 and says what is missing."""
+"""docs/PROMISES.md names only what there is: files, theorems, contracts and must-fail edits; it names every edit; and it prints the contract of every
+public call, methods among them, as it stands in the code, where none has a `requires`; and `dip` passes on just the dip's calls printed there, their types
+and the public constants. python3 tests/promises.py leaves with 1 and says what is missing."""
 import pathlib
 import re
 import sys
@@ -26,8 +27,9 @@ def edit_named(word, crate):
     return (crate, word) if crate and (CRATES / crate / "must-fail" / f"{word}.edit").exists() else None
 
 
-PUBLIC = ["lake", "river", "keccak64", "keccak32", "dip_header", "dip_readings"]
-INNER = {"keccak64::permute12", "keccak32::permute12"}
+PUBLIC = ["keyak", "permutation", "dip_header", "dip_readings"]
+INNER = {"permutation::permute12"}
+FUNCTION = re.compile(r"^(?P<block>impl\b[^{;]*?(?P<type>\w+)(?:<[^{;]*>)?\s*\{)|^(?P<indent> *)pub fn (?P<name>\w+)(?:<[^(]*>)?\(.*?^(?P=indent)\{", re.M | re.S)
 
 
 def used(item):
@@ -37,14 +39,19 @@ def used(item):
 
 
 def offered(crate):
-    """The functions that a crate offers: those of its lib.rt, and of a module what lib.rt passes on by `pub use`, or all by `pub mod`."""
+    """The functions that a crate offers, methods with the name of their type before their own: those of its lib.rt, and of a module what lib.rt passes on by
+    `pub use`, of a type its methods, or all by `pub mod`."""
     lib = texts(f"{crate}/src/lib.rt")
     passed = {name for item in re.findall(r"^pub use [^;]*(?=;)", lib, re.M) for name in used(item)}
     for file in sorted((CRATES / crate / "src").rglob("*.rt")):
-        for found in re.finditer(r"^pub fn (\w+)\(.*?^\{", file.read_text(), re.M | re.S):
-            here = file.stem == "lib" or f"pub mod {file.stem};" in lib or f"{file.stem}::{found[1]}" in passed
-            if here:
-                yield found[1], found[0]
+        kind = ""
+        for found in FUNCTION.finditer(file.read_text()):
+            if found["block"]:
+                kind = found["type"]
+                continue
+            name = f"{kind}::{found['name']}" if found["indent"] else found["name"]
+            if file.stem == "lib" or f"pub mod {file.stem};" in lib or f"{file.stem}::{name.split('::')[0]}" in passed:
+                yield name, found[0]
 
 
 def contracts():
@@ -61,18 +68,20 @@ def unprinted(page):
     for call, text in contracts():
         row = next((line for line in page.splitlines() if line.startswith(f"| `{call}` |")), "")
         printed = re.search(r"\| `[^`]+` \| `([^`]+)` \|", row)
-        if call not in INNER and not (printed and f"ensures {{ {printed[1]} }}\n{{" in text and text.count("ensures") == 1 and "requires" not in text):
+        ends = printed and text.endswith(f"ensures {{ {printed[1]} }}\n" + text.rsplit("\n", 1)[1])
+        if call not in INNER and not (ends and text.count("ensures") == 1 and "requires" not in text):
             yield f"contract not printed as it stands: {call}"
 
 
 def passed_on(page):
-    """What `dip` offers beside the dip's calls that the page prints and the structs in their signatures and the constants beside them, and what of these it leaves out."""
+    """What `dip` offers beside the dip's calls that the page prints, the types in their signatures and of their methods, and the constants beside them; and what
+    of these it leaves out."""
     signatures = {call: text.split("ensures")[0] for call, text in contracts() if f"\n| `{call}` |" in page and call.startswith("dip_")}
-    needed = set(signatures)
+    needed = {"::".join(call.split("::")[:2]) for call in signatures}
     for crate in {call.split("::")[0] for call in signatures}:
         code = texts(f"{crate}/src/**/*.rt")
-        structs = re.findall(r"^pub struct (\w+)", code, re.M)
-        needed |= {f"{crate}::{name}" for name in structs if re.search(rf"\b{name}\b", "".join(signatures.values()))}
+        types = re.findall(r"^pub (?:struct|enum) (\w+)", code, re.M)
+        needed |= {f"{crate}::{name}" for name in types if re.search(rf"\b{name}\b", "".join(signatures.values()))}
         needed |= {f"{crate}::{name}" for name in re.findall(r"^pub const (\w+)", code, re.M)}
     text = re.sub(r"//.*", "", texts("dip/src/**/*.rt")).replace("#![tactic(auto)]", "")
     offered = {name for item in text.split(";") if item.strip() for name in used(item.strip())}
@@ -102,7 +111,7 @@ def main():
             elif "≡" in word or " " in word:
                 there = word in code or word in laws
             elif "::" in word:
-                there = re.search(rf"fn {word.split('::')[-1]}\(", code)
+                there = re.search(rf"\b(fn|struct|enum|trait|type) {word.split('::')[-1]}\b", code)
             else:
                 there = re.search(rf"(^|\s){re.escape(word)} :|^ *(pub )?record {re.escape(word)} ", laws, re.M) or re.search(rf"\b{re.escape(word)}\b", code)
             if not there:

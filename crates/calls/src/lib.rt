@@ -5,12 +5,13 @@
 
 ghost use Rattle.std.specs.Prelude.{◌≡◌, ◌≤◌, length};
 ghost use Rattle.table.specs.Numbers.{done};
+ghost use Rattle.table.specs.Answers.{number_of, answer_of};
 ghost use Rattle.table.specs.Refusals.{first};
 ghost use Rattle.motorist.specs.Motorist.{taken};
 ghost use Rattle.calls.specs.Outcome.{answer, message_rules, start_rules};
 ghost use Rattle.calls.specs.Ends.{withheld};
 
-use table::{Answer, Phase, StartTag};
+use table::{Done, Phase, Refusal, StartTag, refuse_if};
 
 // Why a message is refused: its session's phase and text start, and the lengths of text, metadata, output and tag.
 pub fn message_refusal(
@@ -20,52 +21,34 @@ pub fn message_refusal(
     meta: usize,
     out: usize,
     tag: usize,
-) -> u8
-    ensures { result ≡ first (message_rules phase at text meta out tag) }
+) -> Result<(), Refusal>
+    ensures { number_of result ≡ first (message_rules phase at text meta out tag) }
 {
-    let riding = table::is_riding(phase);
-    let live = riding & ((at == 0) | (at == table::TAG_BYTES));
-    let tags = table::or_else(tag != table::TAG_BYTES, table::TAG_LENGTH, table::DONE);
-    let outs = table::or_else(out < text, table::OUTPUT_SHORT, tags);
-    let metas = table::or_else(65535 < meta, table::METADATA_TOO_LONG, outs);
-    let texts = table::or_else(65535 < text, table::TEXT_TOO_LONG, metas);
-    table::or_else(!live, table::NOT_STARTED, texts)
+    let live = phase.is_riding() & ((at == 0) | (at == table::TAG_BYTES));
+    refuse_if(!live, Refusal::NotStarted)?;
+    refuse_if(65535 < text, Refusal::TextTooLong)?;
+    refuse_if(65535 < meta, Refusal::MetadataTooLong)?;
+    refuse_if(out < text, Refusal::OutputShort)?;
+    refuse_if(tag != table::TAG_BYTES, Refusal::TagLength)
 }
 
 // Why a start is refused: the lengths of key, nonce and tag buffer, and the tag's use.
-pub fn start_refusal(key: usize, nonce: usize, choice: StartTag, tag: usize) -> u8
-    ensures { result ≡ first (start_rules key nonce choice tag) }
+pub fn start_refusal(key: usize, nonce: usize, choice: StartTag, tag: usize) -> Result<(), Refusal>
+    ensures { number_of result ≡ first (start_rules key nonce choice tag) }
 {
-    let asked = table::is_asked(choice);
-    let tags = table::or_else(
-        asked & (tag != table::TAG_BYTES),
-        table::TAG_LENGTH,
-        table::DONE,
-    );
-    let nonces = table::or_else(1024 < nonce, table::NONCE_LENGTH, tags);
-    table::or_else(!((16 <= key) & (key <= 32)), table::KEY_LENGTH, nonces)
+    refuse_if(!((16 <= key) & (key <= 32)), Refusal::KeyLength)?;
+    refuse_if(1024 < nonce, Refusal::NonceLength)?;
+    refuse_if(
+        choice.is_asked() & (tag != table::TAG_BYTES),
+        Refusal::TagLength,
+    )
 }
 
 // The answer of a call that was done.
-pub fn done_answer(written: usize, runs: usize) -> Answer
-    ensures { result ≡ answer done written runs }
+pub fn done_answer(written: usize, runs: usize) -> Result<Done, Refusal>
+    ensures { answer_of result ≡ answer done written runs }
 {
-    Answer {
-        number: table::DONE,
-        written,
-        runs,
-    }
-}
-
-// The answer of a call that was refused: nothing written, nothing run.
-pub fn refused_answer(number: u8) -> Answer
-    ensures { result ≡ answer number 0 0 }
-{
-    Answer {
-        number,
-        written: 0,
-        runs: 0,
-    }
+    Ok(Done { written, runs })
 }
 
 // Where the next text starts: behind the tag that was taken, or at 0 where none was.
@@ -75,7 +58,7 @@ pub fn text_start(tagged: bool) -> usize
     if tagged { table::TAG_BYTES } else { 0 }
 }
 
-// Where the tag is not right, the n bytes of text that came out are cleared.
+// Where the tag is not right, the n bytes of text that came out are cleared: a part of the lent output, whose rest `UnwrapLeaves` keeps.
 pub fn withhold(right: bool, n: usize, out: &mut [u8])
     requires { n ≤ length out.old }
     ensures { out.new ≡ withheld right n out.old }
@@ -83,5 +66,5 @@ pub fn withhold(right: bool, n: usize, out: &mut [u8])
     if right {
         return;
     }
-    slices::clear_front(out, n);
+    out[..n].fill(0);
 }

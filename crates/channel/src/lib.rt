@@ -1,8 +1,8 @@
 // Packets sealed and opened with Lake or River. Serves the main job.
 #![tactic(auto)]
 
-mod either;
+mod instance;
 mod sealed;
 
-pub use either::{Channel, Instance, Step, start};
-pub use sealed::{seal, unseal};
+pub use instance::Instance;
+pub use sealed::{Channel, Secrets};

@@ -1,41 +1,59 @@
 // A packet sealed and opened: its header as metadata, its readings as text, its tag behind them.
-ghost use Rattle.std.specs.Prelude.{◌≡◌, length};
-ghost use Rattle.packets.specs.Packet.{packet_bytes};
+use keyak::Session;
+use lanes::Lanes;
+use packets::{HEADER, Packet};
+use table::{Done, Refusal, StartTag, TAG_BYTES};
 
-use crate::either;
-use crate::either::{Channel, Step};
-
-// The plain packet sealed: its header as metadata and its readings as text, then the tag behind them.
-pub fn seal(channel: Channel, plain: &[u8], sealed: &mut [u8]) -> Step
-    requires { (length plain.now ≡ packet_bytes) × (length sealed.old ≡ packet_bytes) }
-{
-    let end = packets::HEADER + packets::text_length(plain);
-    let mut tag = [0u8; table::TAG_BYTES];
-    slices::copy(&mut sealed[0..packets::HEADER], &plain[0..packets::HEADER]);
-    let step = either::seal(
-        channel,
-        &plain[packets::HEADER..end],
-        &plain[0..packets::HEADER],
-        &mut sealed[packets::HEADER..end],
-        &mut tag,
-    );
-    let stop = end + table::TAG_BYTES;
-    slices::copy(&mut sealed[end..stop], &tag);
-    step
+// What both sides share.
+#[derive(Clone, Copy)]
+pub struct Secrets<'a> {
+    pub key: &'a [u8],
+    pub nonce: &'a [u8],
 }
 
-// A sealed packet opened with its first `head` bytes as header: 24, or any other that a careless reader would take.
-pub fn unseal(channel: Channel, packet: &[u8], head: usize, out: &mut [u8]) -> Step
-    requires { length packet.now ≡ packet_bytes }
-{
-    let end = packets::HEADER + packets::text_length(packet);
-    let split = slices::least(head, end);
-    let stop = end + table::TAG_BYTES;
-    either::unseal(
-        channel,
-        &packet[split..end],
-        &packet[0..split],
-        &packet[end..stop],
-        out,
-    )
+// One side of a year: a session under way, which each packet takes a step further.
+#[derive(Clone, Copy)]
+pub struct Channel<L> {
+    session: Session<L>,
+}
+
+impl<L: Lanes> Channel<L> {
+    // The first side produces the start tag, the second checks it.
+    pub fn start(secrets: Secrets<'_>, choice: StartTag, tag: &mut [u8]) -> Result<Self, Refusal> {
+        let turn = Session::start(secrets.key, secrets.nonce, false, choice, tag);
+        turn.answer.map(|_| Channel {
+            session: turn.session,
+        })
+    }
+
+    // The plain packet sealed: the same header, its readings as ciphertext, and the tag behind them.
+    pub fn seal(&mut self, plain: &Packet) -> Result<Packet, Refusal> {
+        let mut sealed = Packet::EMPTY;
+        let (header, behind) = sealed.bytes.split_at_mut(HEADER);
+        let (text, tag) = behind.split_at_mut(plain.text_length());
+        header.copy_from_slice(plain.header());
+        let turn = self.session.wrap(
+            plain.text(),
+            plain.header(),
+            false,
+            text,
+            &mut tag[..TAG_BYTES],
+        );
+        self.session = turn.session;
+        turn.answer.map(|_| sealed)
+    }
+
+    // A sealed packet opened with its first `head` bytes as header: 24, or any other that a careless reader would take.
+    pub fn unseal(
+        &mut self,
+        packet: &Packet,
+        head: usize,
+        out: &mut [u8],
+    ) -> Result<Done, Refusal> {
+        let end = HEADER + packet.text_length();
+        let (header, text) = packet.bytes[..end].split_at(head.min(end));
+        let turn = self.session.unwrap(text, header, packet.tag(), false, out);
+        self.session = turn.session;
+        turn.answer
+    }
 }

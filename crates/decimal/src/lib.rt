@@ -1,52 +1,59 @@
 // A word as a decimal number: digits alone, at least one. Serves the programs that read text; no public call.
 #![tactic(auto)]
 
-ghost use Rattle.std.specs.Prelude.{◌≤◌};
+ghost use Rattle.std.specs.Prelude.{◌<◌, ◌≤◌, IfOk, IfSome};
 
-// What a word tells: whether it is digits alone, whether their number is within the limit, and that number, or the limit.
-#[derive(Clone, Copy)]
-pub struct Decimal {
-    pub digits: bool,
-    pub fits: bool,
-    pub value: usize,
+// Why a word is no number.
+#[derive(Clone, Copy, Debug, PartialEq, Eq)]
+pub enum NotANumber {
+    NotDigits,
+    BeyondLimit,
 }
 
 // No limit is taken to be higher, so that one digit more never overflows.
 pub const LARGEST: usize = 99999999999999;
 
-// The value of a decimal digit, and 10 for any other byte.
-fn digit(b: u8) -> usize
-    ensures { result ≤ 10 }
+fn digit(b: u8) -> Option<usize>
+    ensures { IfSome result (λ d. d < 10) }
 {
-    if b < b'0' {
-        return 10;
+    if b.is_ascii_digit() {
+        Some(usize::from(b - b'0'))
+    } else {
+        None
     }
-    if b'9' < b {
-        return 10;
+}
+
+// The number of a word, or `top` where it is larger; a byte that is no digit counts as ten.
+fn capped(word: &[u8], top: usize) -> usize
+    requires { top ≤ 100000000000000 }
+    ensures { result ≤ top }
+{
+    let mut value = 0;
+    for b in word {
+        let more = 10 * value + digit(*b).unwrap_or(10);
+        value = more.min(top);
     }
-    (b - b'0') as usize
+    value
 }
 
 // A word's number, of at most `most`.
-pub fn read(word: &[u8], most: usize) -> Decimal
-    ensures { result.value ≤ most }
+pub fn read(word: &[u8], most: usize) -> Result<usize, NotANumber>
+    ensures { IfOk result (λ n. n ≤ most) }
 {
-    let top = slices::least(most, LARGEST);
-    let mut digits = 0 < word.len();
-    let mut fits = true;
-    let mut value = 0;
-    let mut i = 0;
-    while i < word.len() {
-        let d = digit(word[i]);
-        let more = 10 * value + d;
-        digits = digits & (d < 10);
-        fits = fits & (more <= top);
-        value = slices::least(more, top);
-        i += 1;
+    if word.is_empty() || word.iter().any(|b| digit(*b).is_none()) {
+        return Err(NotANumber::NotDigits);
     }
-    Decimal {
-        digits,
-        fits,
-        value,
+    let top = most.min(LARGEST);
+    let value = capped(word, top + 1);
+    if top < value {
+        return Err(NotANumber::BeyondLimit);
     }
+    Ok(value)
+}
+
+// What a word is taken for by a program that goes on where it is no number: its number, or the limit, with ten for a byte that is no digit.
+pub fn nearest(word: &[u8], most: usize) -> usize
+    ensures { result ≤ most }
+{
+    capped(word, most.min(LARGEST))
 }

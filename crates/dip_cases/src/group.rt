@@ -1,53 +1,43 @@
 // The line of a group of cases: its name, and what each case answered.
-use dip::ReadingsAnswer;
-use std::io;
-use trials::say;
-use trials::tally::{Tally, add};
+use dip::BadReadings;
+use std::{fmt, io};
+use table::Refusal;
+use trials::tally::Tally;
 
-pub fn begin(rt: &impl Print, name: &[u8]) -> io::Result<()> {
-    say::text(rt, name)?;
-    say::text(rt, b":")
-}
+// What a call on readings answers in the client's numbers, and what is expected of it: the number, and the index beside it.
+#[derive(Clone, Copy, Debug, PartialEq, Eq)]
+pub struct Told(pub u8, pub usize);
 
-fn close(rt: &impl Print, t: Tally, same: bool) -> io::Result<Tally> {
-    if !same {
-        say::text(rt, b"(differs)")?;
+impl From<Result<(), BadReadings>> for Told {
+    fn from(answer: Result<(), BadReadings>) -> Told {
+        match answer {
+            Ok(()) => Told(0, 0),
+            Err(bad) => Told(Refusal::from(bad).number(), bad.index()),
+        }
     }
-    Ok(add(t, same))
 }
 
-// One case: its number is printed, and whether the rest of the outcome was right.
-pub fn count(
-    rt: &impl Print,
-    t: Tally,
-    number: u8,
-    expected: u8,
-    right: bool,
-) -> io::Result<Tally> {
-    let same = (number == expected) & right;
-    say::text(rt, b" ")?;
-    say::number(rt, number as usize)?;
-    close(rt, t, same)
-}
-
-// One case of the readings: with 16 its index is printed too, as 16:4.
-pub fn answer(
-    rt: &impl Print,
-    t: Tally,
-    got: ReadingsAnswer,
-    expected: ReadingsAnswer,
-    right: bool,
-) -> io::Result<Tally> {
-    let same = (got.number == expected.number) & (got.index == expected.index) & right;
-    say::text(rt, b" ")?;
-    say::number(rt, got.number as usize)?;
-    if got.number == 16 {
-        say::text(rt, b":")?;
-        say::number(rt, got.index)?;
+// With 16 the index is printed too, as 16:4.
+impl fmt::Display for Told {
+    fn fmt<W: fmt::Write>(&self, f: &mut fmt::Formatter<W>) -> fmt::Result {
+        match self {
+            Told(16, index) => write!(f, "16:{index}"),
+            Told(number, _) => write!(f, "{number}"),
+        }
     }
-    close(rt, t, same)
 }
 
-pub fn end(rt: &impl Print) -> io::Result<()> {
-    say::text(rt, b"\n")
+// One case: what it answered, and whether that and all that it left was right.
+pub fn case<D: fmt::Display + Drop>(
+    rt: &impl Print,
+    all: &mut Tally,
+    answer: D,
+    right: bool,
+) -> io::Result<()> {
+    print!(rt; " {answer}")?;
+    if !right {
+        print!(rt; "(differs)")?;
+    }
+    all.note(right);
+    Ok(())
 }

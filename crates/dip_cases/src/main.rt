@@ -5,23 +5,16 @@
 mod group;
 mod header;
 mod readings;
+mod series;
 
 use std::io;
-use trials::tally::{none, tell};
+use trials::tally::Tally;
 
 fn main(rt: HostRuntime) -> io::Result<()> {
-    let a = header::names(&rt, none())?;
-    let b = header::boreholes(&rt, a)?;
-    let c = header::dates(&rt, b)?;
-    let d = header::counts(&rt, c)?;
-    let e = header::datums(&rt, d)?;
-    let f = header::orders(&rt, e)?;
-    let g = header::lengths(&rt, f)?;
-    let h = header::series(&rt, g)?;
-    let i = readings::levels(&rt, h)?;
-    let j = readings::places(&rt, i)?;
-    let k = readings::sizes(&rt, j)?;
-    let l = readings::lengths(&rt, k)?;
-    let m = readings::months(&rt, l)?;
-    tell(&rt, b"all", m)
+    let mut all = Tally::default();
+    header::fields(&rt, &mut all)?;
+    header::lengths(&rt, &mut all)?;
+    series::pairs(&rt, &mut all)?;
+    readings::months(&rt, &mut all)?;
+    println!(rt; "all: {all}")
 }

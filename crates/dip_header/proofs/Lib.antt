@@ -9,4 +9,5 @@ pub mod Typed
 pub mod HeaderTrip
 pub mod Once
 -- A step of a function's proof.
-pub mod Cells
+pub mod Written
+pub mod Outcomes

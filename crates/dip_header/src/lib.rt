@@ -4,5 +4,5 @@
 mod header;
 mod series;
 
-pub use header::{Header, HeaderRead, read_header, write_header};
+pub use header::{Header, read_header, write_header};
 pub use series::same_series;

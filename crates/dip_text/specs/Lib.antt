@@ -1,2 +1,3 @@
--- What the crate's inner contracts cite.
+-- What the crate's contracts cite.
 pub mod Bounds
+pub mod Troubles

@@ -9,4 +9,4 @@ mod numbers;
 mod trouble;
 
 pub use month::read_month;
-pub use trouble::{NAME_LENGTH, NAME_SPACE, NO_NUMBER, TOO_FEW_WORDS, TOO_MANY_READINGS, Trouble};
+pub use trouble::{Field, Trouble};

@@ -1,14 +1,19 @@
 -- The two definitions undo each other, and their sizes.
 -- Assumes nothing.
 use mathlib.Core.Path.{◌≡◌, refl, sym, ap, ◌∙◌}
-use mathlib.Core.List.{List, [], ◌∷◌, ◌++◌, append-nil}
-use Prim.Native.Nat.{ℕ, zero, suc, ◌+◌, ◌-◌, ◌*◌, ◌/◌, ◌%◌, ◌^◌, ◌≤◌, ◌<◌}
+use mathlib.Core.List.{List, [], ◌∷◌, ◌++◌, reverse}
+use Prim.Native.Nat.{ℕ, zero, suc, ◌+◌, ◌*◌, ◌/◌, ◌%◌, ◌^◌, ◌≤◌, ◌<◌}
 use native.Mathlib.Omega.{arith}
-use native.Mathlib.Nat.{mod-lt, div-one, zero-add, lt_of_lt_of_le}
+use native.Mathlib.Nat.{mod-lt, div-one, lt_of_lt_of_le}
 use lib.Pow.{shr-shr, pow-add, pow_mono}
-use lib.Seq.{drop-cons, sets, sets-eq}
+use lib.Bits.{bit_or}
+use lib.Seq.{drop-cons}
 use lib.ListN.{length, get_or, set, drop, drop_of_length-le}
 use native.Mathlib.Numerals.{add-one}
+use Rattle.std.specs.List.{fold}
+use Rattle.std.proofs.lemmas.List.{reverse-append}
+use Rattle.std.proofs.lemmas.List.Sums.{fold_push}
+use Rattle.std.proofs.lemmas.Nat.{or_shifted}
 use Rattle.slices.proofs.Parts.{grow_one}
 use Rattle.endian.specs.Little.{from_bytes, to_bytes}
 use Rattle.endian.specs.Small.{Small}
@@ -93,20 +98,10 @@ to_from-place (suc n) i x =
 pub stored : (n x : ℕ) → to_bytes n x ≡ bytes_from 0 n x
 stored n x = ap (to_bytes n) (sym (div-one x)) ∙ to_from-place n 0 x
 
-bytes_from_length : (n i x : ℕ) → length (bytes_from i n x) ≡ n
-bytes_from_length zero i x = refl
-bytes_from_length (suc n) i x = ap suc (bytes_from_length n (suc i) x)
-
--- and stored one after the other into as many lent bytes
-pub stored_in : (n x : ℕ) (d : List ℕ) → length d ≡ n → sets d 0 (bytes_from 0 n x) ≡ to_bytes n x
-stored_in n x d h =
-    let k : length (bytes_from 0 n x) ≡ n = bytes_from_length n 0 x in
-    rw (sets-eq (bytes_from 0 n x) d 0 (omega arith), k, zero-add, drop_of_length-le d {i = n} (omega arith), append-nil) (sym (stored n x))
-
--- ---- one byte more, from the back and from the front
-pub from_back : (s : List ℕ) (i : ℕ) → i < length s → from_bytes (drop i s) ≡ get_or s i 0 + 2 ^ 8 * from_bytes (drop (suc i) s)
-unfolding from_bytes
-from_back s i h = rw (drop-cons s i 0 h) refl
+-- ---- one byte more
+-- n bytes at most are a number of 8 n bits
+pub few_lt : (n : ℕ) (vs : List ℕ) → length vs ≤ n → Small vs → from_bytes vs < 2 ^ (8 * n)
+few_lt n vs h b = let e : 8 * length vs ≤ 8 * n = omega arith in lt_of_lt_of_le (from_bytes_lt vs b) (pow_mono e)
 
 pub to_snoc : (n x : ℕ) → to_bytes (suc n) x ≡ to_bytes n x ++ (x / 2 ^ (8 * n) % 2 ^ 8 ∷ [])
 unfolding to_bytes
@@ -115,26 +110,19 @@ to_snoc (suc n) x =
     let e : 8 * suc n ≡ 8 + 8 * n = omega arith in
     rw (to_snoc n (x / 2 ^ 8), e, ← shr-shr x 8 (8 * n)) refl
 
--- four bytes at most are a number of 32 bits
-pub few_lt : (vs : List ℕ) → length vs ≤ 4 → Small vs → from_bytes vs < 2 ^ 32
-few_lt vs h b = let e : 8 * length vs ≤ 32 = omega arith in lt_of_lt_of_le (from_bytes_lt vs b) (pow_mono e)
+-- one byte more behind those above it, as a number of 64 bits takes it in
+abbrev pub byte_in : ℕ → ℕ → ℕ
+byte_in x v = bit_or ((x * 2 ^ 8) % 2 ^ 64) v
 
--- the number of k bytes leaves room for a byte more
-pub part_room : (k x : ℕ) → k ≤ 7 → x < 2 ^ (8 * k) → x < 2 ^ 56
-part_room k x h b = let e : 8 * k ≤ 56 = omega arith in lt_of_lt_of_le b (pow_mono e)
-
-pub part_more : (k x v : ℕ) → x < 2 ^ (8 * k) → v < 2 ^ 8 → x * 256 + v < 2 ^ (8 * (k + 1))
-part_more k x v h b =
-    let e : 8 * (k + 1) ≡ 8 + 8 * k = omega arith in
-    let p : 2 ^ (8 + 8 * k) ≡ 2 ^ 8 * 2 ^ (8 * k) = pow-add 2 8 (8 * k) in
-    rw (e, p) (omega arith)
-
--- the turns of the two loops
-pub load_more : (s : List ℕ) (x v i : ℕ) → 0 < i → i ≤ length s → x ≡ from_bytes (drop i s) → v ≡ get_or s (i - 1) 0 → x * 256 + v ≡ from_bytes (drop (i - 1) s)
-load_more s x v i p h ex ev =
-    let e : suc (i - 1) ≡ i = omega arith in
-    let b : from_bytes (drop (i - 1) s) ≡ get_or s (i - 1) 0 + 2 ^ 8 * from_bytes (drop i s) = rw e at (from_back s (i - 1) (omega arith)) in
-    omega arith
+-- eight bytes at most, the last taken in first
+pub folded : (s : List ℕ) → length s ≤ 8 → Small s → fold byte_in 0 (reverse s) ≡ from_bytes s
+unfolding from_bytes
+folded [] h b = refl
+folded (v ∷ vs) h b =
+    let e = folded vs (omega arith) (λ i. b (suc i)) in
+    let k : from_bytes vs < 2 ^ 56 = few_lt 7 vs (omega arith) (λ i. b (suc i)) in
+    let m : (from_bytes vs * 2 ^ 8) % 2 ^ 64 ≡ from_bytes vs * 2 ^ 8 = omega arith in
+    rw (reverse-append (v ∷ []) vs, fold_push byte_in 0 (reverse vs) v, e, m, or_shifted (from_bytes vs) 8 v (b 0)) (omega arith)
 
 pub store_more : (x i : ℕ) (d : List ℕ) → i < length d → set (to_bytes i x ++ drop i d) i (x / 2 ^ (8 * i) % 2 ^ 8) ≡ to_bytes (i + 1) x ++ drop (i + 1) d
 store_more x i d h = rw (grow_one (to_bytes i x) d i (x / 2 ^ (8 * i) % 2 ^ 8) 0 (to_bytes-length i x) h, add-one, to_snoc i x) refl

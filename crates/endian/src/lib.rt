@@ -1,134 +1,121 @@
 // Little-endian numbers in lent bytes, at the widths that the dip and the lanes have: loading and storing.
-// Serves the crates above; no public call.
+// Serves the crates above; no public call. Where a cast narrows here, it is proved to lose nothing: `TryFrom` would bring an error that cannot be.
 #![tactic(auto)]
 
-ghost use Rattle.std.specs.Prelude.{◌≡◌, ◌<◌, ◌≤◌, length};
+ghost use Rattle.std.specs.Prelude.{◌≡◌, ◌≤◌, ℕ, length};
 ghost use Rattle.endian.specs.Little.{from_bytes, to_bytes};
 
-// A byte at each width: its contract keeps the bound that a cast would lose.
-fn wide16(x: u8) -> u16
-    ensures { (result ≡ x) × (result < 256) }
-{
-    x as u16
+// A number that stands in a run of bytes, the lowest byte first.
+pub trait Little: Copy {
+    // How many bytes it has.
+    ghost size: { ℕ };
+
+    // The number that it stands for.
+    ghost value: { Self → ℕ };
+
+    fn load(s: &[u8]) -> Self
+        requires { length s.now ≡ size }
+        ensures { value result ≡ from_bytes s.now };
+
+    fn store(self, out: &mut [u8])
+        requires { length out.old ≡ size }
+        ensures { out.new ≡ to_bytes size (value self) };
+
+    // From fewer bytes than it has.
+    fn load_part(s: &[u8]) -> Self
+        requires { length s.now ≤ size }
+        ensures { value result ≡ from_bytes s.now };
+
+    // As many of its lowest bytes as there is room for; zeros behind all of them.
+    fn store_part(self, out: &mut [u8])
+        ensures { out.new ≡ to_bytes (length out.old) (value self) };
 }
 
-fn wide32(x: u8) -> u32
-    ensures { (result ≡ x) × (result < 256) }
-{
-    x as u32
+// The three are alike but for the type: std has from_le_bytes, to_le_bytes and From for each type by name and under no trait, and no macro may write an impl that the gate takes.
+impl Little for u16 {
+    ghost size = { 2 };
+
+    ghost value = { λ x. x };
+
+    fn load(s: &[u8]) -> u16 {
+        u16::from_le_bytes([s[0], s[1]])
+    }
+
+    fn store(self, out: &mut [u8]) {
+        out.copy_from_slice(&u16::to_le_bytes(self));
+    }
+
+    // No `From` narrows; that the number fits is shown, here and at u32.
+    fn load_part(s: &[u8]) -> u16 {
+        number(s) as u16
+    }
+
+    fn store_part(self, out: &mut [u8]) {
+        spread(u64::from(self), out);
+    }
 }
 
-pub fn wide64(x: u8) -> u64
-    ensures { (result ≡ x) × (result < 256) }
-{
-    x as u64
+impl Little for u32 {
+    ghost size = { 4 };
+
+    ghost value = { λ x. x };
+
+    fn load(s: &[u8]) -> u32 {
+        u32::from_le_bytes([s[0], s[1], s[2], s[3]])
+    }
+
+    fn store(self, out: &mut [u8]) {
+        out.copy_from_slice(&u32::to_le_bytes(self));
+    }
+
+    fn load_part(s: &[u8]) -> u32 {
+        number(s) as u32
+    }
+
+    fn store_part(self, out: &mut [u8]) {
+        spread(u64::from(self), out);
+    }
 }
 
-pub fn load16(s: &[u8]) -> u16
-    requires { length s.now ≡ 2 }
-    ensures { result ≡ from_bytes s.now }
-{
-    wide16(s[0]) + (wide16(s[1]) << 8)
+impl Little for u64 {
+    ghost size = { 8 };
+
+    ghost value = { λ x. x };
+
+    fn load(s: &[u8]) -> u64 {
+        u64::from_le_bytes([s[0], s[1], s[2], s[3], s[4], s[5], s[6], s[7]])
+    }
+
+    fn store(self, out: &mut [u8]) {
+        out.copy_from_slice(&u64::to_le_bytes(self));
+    }
+
+    fn load_part(s: &[u8]) -> u64 {
+        number(s)
+    }
+
+    fn store_part(self, out: &mut [u8]) {
+        spread(self, out);
+    }
 }
 
-pub fn load32(s: &[u8]) -> u32
-    requires { length s.now ≡ 4 }
-    ensures { result ≡ from_bytes s.now }
-{
-    wide32(s[0]) + (wide32(s[1]) << 8) + (wide32(s[2]) << 16) + (wide32(s[3]) << 24)
-}
-
-pub fn load64(s: &[u8]) -> u64
-    requires { length s.now ≡ 8 }
-    ensures { result ≡ from_bytes s.now }
-{
-    wide64(s[0])
-        + (wide64(s[1]) << 8)
-        + (wide64(s[2]) << 16)
-        + (wide64(s[3]) << 24)
-        + (wide64(s[4]) << 32)
-        + (wide64(s[5]) << 40)
-        + (wide64(s[6]) << 48)
-        + (wide64(s[7]) << 56)
-}
-
-pub fn bytes16(x: u16) -> [u8; 2]
-    ensures { result ≡ to_bytes 2 x }
-{
-    [(x % 256) as u8, ((x >> 8) % 256) as u8]
-}
-
-pub fn bytes32(x: u32) -> [u8; 4]
-    ensures { result ≡ to_bytes 4 x }
-{
-    [
-        (x % 256) as u8,
-        ((x >> 8) % 256) as u8,
-        ((x >> 16) % 256) as u8,
-        ((x >> 24) % 256) as u8,
-    ]
-}
-
-pub fn store32(out: &mut [u8], x: u32)
-    requires { length out.old ≡ 4 }
-    ensures { out.new ≡ to_bytes 4 x }
-{
-    out[0] = (x % 256) as u8;
-    out[1] = ((x >> 8) % 256) as u8;
-    out[2] = ((x >> 16) % 256) as u8;
-    out[3] = ((x >> 24) % 256) as u8;
-}
-
-pub fn store64(out: &mut [u8], x: u64)
-    requires { length out.old ≡ 8 }
-    ensures { out.new ≡ to_bytes 8 x }
-{
-    out[0] = (x % 256) as u8;
-    out[1] = ((x >> 8) % 256) as u8;
-    out[2] = ((x >> 16) % 256) as u8;
-    out[3] = ((x >> 24) % 256) as u8;
-    out[4] = ((x >> 32) % 256) as u8;
-    out[5] = ((x >> 40) % 256) as u8;
-    out[6] = ((x >> 48) % 256) as u8;
-    out[7] = ((x >> 56) % 256) as u8;
-}
-
-// Fewer bytes than a lane has, as a number: the last byte first, so that what is done is the number of the bytes behind.
-pub fn load_part64(s: &[u8]) -> u64
+// The number whose bytes are s: the last byte is the highest.
+fn number(s: &[u8]) -> u64
     requires { length s.now ≤ 8 }
     ensures { result ≡ from_bytes s.now }
 {
-    let mut x = 0;
-    let mut i = s.len();
-    while 0 < i {
-        i -= 1;
-        x = x * 256 + wide64(s[i]);
-    }
-    x
+    s.iter()
+        .rev()
+        .fold(0, |x, byte| (x << 8) | u64::from(*byte))
 }
 
-// As many of the lowest bytes of x as there is room for.
-pub fn store_part64(out: &mut [u8], x: u64)
+// The lowest bytes of x, as many as out has.
+fn spread(x: u64, out: &mut [u8])
     ensures { out.new ≡ to_bytes (length out.old) x }
 {
     let mut rest = x;
-    let mut i = 0;
-    while i < out.len() {
-        out[i] = (rest % 256) as u8;
-        rest = rest / 256;
-        i += 1;
+    for byte in out.iter_mut() {
+        *byte = (rest % 256) as u8;
+        rest /= 256;
     }
-}
-
-pub fn load_part32(s: &[u8]) -> u32
-    requires { length s.now ≤ 4 }
-    ensures { result ≡ from_bytes s.now }
-{
-    load_part64(s) as u32
-}
-
-pub fn store_part32(out: &mut [u8], x: u32)
-    ensures { out.new ≡ to_bytes (length out.old) x }
-{
-    store_part64(out, x as u64);
 }

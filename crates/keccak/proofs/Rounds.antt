@@ -3,7 +3,8 @@ use mathlib.Core.Path.{◌≡◌, ap, ◌∙◌}
 use mathlib.Core.List.{List}
 use Prim.Native.Nat.{ℕ, zero, suc, ◌+◌, ◌-◌, ◌*◌, ◌%◌, ◌^◌, ◌≤◌, ◌<◌}
 use native.Mathlib.Omega.{arith}
-use lib.ListN.{get_or, length}
+use lib.ListN.{get_or, take, drop, length}
+use lib.Seq.{get_or-drop, get_or-take}
 use Rattle.keccak.specs.Keccak.{State, theta, rho, pi, chi, round, keccak_p}
 use Rattle.keccak.specs.Tables.{constants}
 use Rattle.keccak.specs.Lanes.{bits, lanes_of, theta_l, rho_pi_l, chi_l, iota_l, round_l, rounds_l, constant}
@@ -45,3 +46,15 @@ rounds-turn l r k table s t b h q c e =
     let i : 12 + 2 * l - suc n ≡ r = omega arith in
     let d : k ≡ constant l (12 + 2 * l - suc n) = rw i (c ∙ rw q (constants_right l r b (omega arith))) in
     rw m (ap (rounds_l l n) (e ∙ ap (λ (j : ℕ). round_l (2 ^ l) j s) d))
+
+-- the same where the constants of the last n rounds are gone through, of which this is number i
+pub last-turn : (l n i all : ℕ) (table s t : List ℕ) → l ≤ 6 → all ≡ 12 + 2 * l → n ≤ all → i < n → table ≡ constants
+    → t ≡ round_l (2 ^ l) (get_or (take (all - (all - n)) (drop (all - n) table)) i 0 % 2 ^ 2 ^ l) s → rounds_l l (n - (i + 1)) t ≡ rounds_l l (n - i) s
+last-turn l n i all table s t b ea hn hi q e =
+    let r : ℕ = all - n + i in
+    let c : get_or (take (all - (all - n)) (drop (all - n) table)) i 0 ≡ get_or table r 0
+    = get_or-take (all - (all - n)) (drop (all - n) table) i 0 (omega arith) ∙ get_or-drop (all - n) table i 0 in
+    let z = rounds-turn l r _ table s t b (omega arith) q (ap (λ (k : ℕ). k % 2 ^ 2 ^ l) c) e in
+    let m : 12 + 2 * l - (r + 1) ≡ n - (i + 1) = omega arith in
+    let o : 12 + 2 * l - r ≡ n - i = omega arith in
+    rw (m, o) at z

@@ -8,5 +8,5 @@ mod places;
 mod text_lines;
 
 pub use kind::{Kind, has_mark, kind_of};
-pub use line_words::{up_to, word, words};
-pub use text_lines::{line, lines};
+pub use line_words::{Words, up_to};
+pub use text_lines::{Line, Lines};

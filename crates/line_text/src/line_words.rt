@@ -1,56 +1,48 @@
 // The words of a line, counted from 0: what stands between blanks.
-ghost use Rattle.std.specs.Prelude.{◌≤◌, length};
+ghost use Rattle.std.specs.Prelude.{◌≡◌, ◌≤◌, ◌<◌, length, MatchOption};
+ghost use Rattle.std.specs.Iterator.{at_most};
 
 use crate::places;
-use crate::places::Place;
+use crate::places::is_space;
 
-pub fn words(line: &[u8]) -> usize
-    ensures { result ≤ length line.now }
-{
-    let mut found = 0;
-    let mut apart = true;
-    let mut i = 0;
-    while i < line.len() {
-        let space = places::is_space(line[i]);
-        if apart & !space {
-            found += 1;
-        }
-        apart = space;
-        i += 1;
+// What is left of a line behind the words that came.
+#[derive(Clone, Copy, Debug)]
+pub struct Words<'a> {
+    pub rest: &'a [u8],
+}
+
+impl<'a> Words<'a> {
+    pub fn of(line: &'a [u8]) -> Self
+        ensures { result.rest.now ≡ line.now }
+    {
+        Words { rest: line }
     }
-    found
 }
 
-fn past_word(line: &[u8], from: usize) -> usize
-    requires { from ≤ length line.now }
-    ensures { result ≤ length line.now }
-{
-    let start = places::find(Place::WordStart, line, from);
-    places::find(Place::WordEnd, line, start)
-}
+impl<'a> Iterator for Words<'a> {
+    type Item = &'a [u8];
 
-// Where the first k words end.
-fn past_words(line: &[u8], k: usize) -> usize
-    ensures { result ≤ length line.now }
-{
-    let mut from = 0;
-    let mut left = k;
-    while 0 < left {
-        from = past_word(line, from);
-        left -= 1;
+    // No word is empty, and what is left behind it is shorter.
+    ghost next_gives = { λ s word t. MatchOption word (length t.rest.now ≤ length s.rest.now) (λ w. (0 < length w.now) × (length t.rest.now < length s.rest.now)) };
+
+    ghost remaining = { λ words. at_most (length words.rest.now) };
+
+    fn next(&mut self) -> Option<&'a [u8]> {
+        let (_, begun) = self
+            .rest
+            .split_at(places::first(self.rest, |b| !is_space(b)));
+        let (word, rest) = begun.split_at(places::first(begun, is_space));
+        self.rest = rest;
+        if word.is_empty() { None } else { Some(word) }
     }
-    from
-}
-
-// A word; nothing past the last one.
-pub fn word(line: &[u8], k: usize) -> &[u8] {
-    let start = places::find(Place::WordStart, line, past_words(line, k));
-    let end = places::find(Place::WordEnd, line, start);
-    &line[start..end]
 }
 
 // The first k words, with what stands between them.
 pub fn up_to(line: &[u8], k: usize) -> &[u8] {
-    let end = past_words(line, k);
-    &line[0..end]
+    let mut words = Words::of(line);
+    for _ in 0..k {
+        let _ = words.next();
+    }
+    let end = line.len() - words.rest.len();
+    &line[..end]
 }

@@ -1,41 +1,17 @@
-// Places in a line: where a word begins and ends. Serves the words of a line.
+// Places in a text: the first byte that a test takes; and what a blank is. Serves the words and the lines.
 ghost use Rattle.std.specs.Prelude.{◌≡◌, false, ◌≤◌, length};
-ghost use Rattle.line_text.specs.Bounds.{Within};
-
-#[derive(Clone, Copy)]
-pub enum Place {
-    WordStart,
-    WordEnd,
-}
 
 // A blank: no byte above 32 is one.
 pub fn is_space(b: u8) -> bool
     ensures { 33 ≤ b → result ≡ false }
 {
-    if 32 < b {
-        return false;
-    }
-    (b == b' ') | (b == b'\t') | (b == b'\r')
+    matches!(b, b' ' | b'\t' | b'\r')
 }
 
-fn is_at(place: Place, b: u8) -> bool {
-    match place {
-        Place::WordStart => !is_space(b),
-        Place::WordEnd => is_space(b),
-    }
-}
-
-// The first such place from `from` on, or the end.
-pub fn find(place: Place, s: &[u8], from: usize) -> usize
-    requires { from ≤ length s.now }
-    ensures { Within from (length s.now) result }
+// The place of the first byte that passes, or the end.
+pub fn first<F: Fn(u8) -> bool>(text: &[u8], passes: F) -> usize
+    requires { F.IsAlwaysCallable passes }
+    ensures { result ≤ length text.now }
 {
-    let mut i = from;
-    while i < s.len() {
-        if is_at(place, s[i]) {
-            return i;
-        }
-        i += 1;
-    }
-    i
+    text.iter().position(|b| passes(*b)).unwrap_or(text.len())
 }

@@ -1,40 +1,55 @@
 // The lines of a text, counted from 1.
-ghost use Rattle.std.specs.Prelude.{◌≤◌, length};
+ghost use Rattle.std.specs.Prelude.{◌≡◌, ◌+◌, ◌^◌, ◌<◌, length, MatchOption};
+ghost use Rattle.std.specs.Iterator.{at_most};
 
-// How many there are; an empty rest behind the last line end is none.
-pub fn lines(text: &[u8]) -> usize
-    ensures { result ≤ length text.now }
-{
-    let mut found = 0;
-    let mut begins = true;
-    let mut i = 0;
-    while i < text.len() {
-        if begins {
-            found += 1;
+use crate::places;
+
+// A line by its number, without its end.
+#[derive(Clone, Copy, Debug, PartialEq, Eq)]
+pub struct Line<'a> {
+    pub number: usize,
+    pub text: &'a [u8],
+}
+
+// What is left of a text behind the lines that came, and how many these were.
+#[derive(Clone, Copy, Debug)]
+pub struct Lines<'a> {
+    pub rest: &'a [u8],
+    pub number: usize,
+    ghost fits: { number + length rest.now < 2 ^ 64 },
+}
+
+impl<'a> Lines<'a> {
+    // An empty rest behind the last line end is no line.
+    pub fn of(text: &'a [u8]) -> Self
+        ensures rest { result.rest.now ≡ text.now }
+        ensures number { result.number ≡ 0 }
+    {
+        Lines {
+            rest: text,
+            number: 0,
         }
-        begins = text[i] == b'\n';
-        i += 1;
     }
-    found
 }
 
-// Where the line after the one at `from` begins, or the end.
-fn past_line(text: &[u8], from: usize) -> usize
-    requires { from ≤ length text.now }
-    ensures { result ≤ length text.now }
-{
-    let end = scan::find(text, from, text.len(), b'\n');
-    if end < text.len() { end + 1 } else { end }
-}
+impl<'a> Iterator for Lines<'a> {
+    type Item = Line<'a>;
 
-// A line by its number, without its end; nothing past the last one.
-pub fn line(text: &[u8], number: usize) -> &[u8] {
-    let mut start = 0;
-    let mut left = number;
-    while 1 < left {
-        start = past_line(text, start);
-        left -= 1;
+    // Each has the number after the one before it.
+    ghost next_gives = { λ s line t. MatchOption line (length s.rest.now ≡ 0) (λ l. (l.number ≡ s.number + 1) × (t.number ≡ l.number) × (length t.rest.now < length s.rest.now)) };
+
+    ghost remaining = { λ lines. at_most (length lines.rest.now) };
+
+    fn next(&mut self) -> Option<Line<'a>> {
+        if self.rest.is_empty() {
+            return None;
+        }
+        let (text, behind) = self.rest.split_at(places::first(self.rest, |b| b == b'\n'));
+        self.rest = behind.get(1..).unwrap_or(b"");
+        self.number += 1;
+        Some(Line {
+            number: self.number,
+            text,
+        })
     }
-    let end = scan::find(text, start, text.len(), b'\n');
-    &text[start..end]
 }

@@ -1,24 +1,17 @@
 -- One block, put in part by part as the code does, over the states' bytes.
 use mathlib.Core.Path.{◌≡◌, refl, sym, ap, ◌∙◌}
 use mathlib.Core.Bool.{Bool}
-use Prim.Native.Nat.{ℕ, zero, suc, ◌+◌, ◌-◌, ◌%◌, ◌≤◌}
+use Prim.Native.Nat.{ℕ, ◌+◌, ◌-◌, ◌%◌, ◌≤◌}
 use native.Mathlib.Omega.{arith}
 use lib.ListN.{length, take, drop, length-drop}
 use lib.Seq.{length-take-le}
 use Rattle.motorist.specs.Instance.{Instance, Sound, full_rate}
-use Rattle.motorist.specs.Piston.{Bytes, xors, plain, crypt_end}
+use Rattle.motorist.specs.Piston.{Bytes, xors, plain}
 use Rattle.motorist.proofs.Xors.{length-plain}
 use Rattle.piston.specs.Placed.{placed}
 use Rattle.piston.proofs.Block.{block_parts}
 use Rattle.plan.specs.Cut.{Fits, Bytewise, stepped, offset_bytes}
 use Rattle.plan.specs.declared.Cut.{Cut}
-
-pub crypt_end_none : (at n : ℕ) → n ≡ 0 → 0 ≡ crypt_end at n
-crypt_end_none at n e = rw e refl
-
-pub crypt_end_some : (at n : ℕ) → (n ≡ 0 → ⊥) → at + n ≡ crypt_end at n
-crypt_end_some at zero h = absurd (h refl)
-crypt_end_some at (suc n) h = refl
 
 part_length : (l : Bytes) (a z : ℕ) → a ≤ z → z ≤ length l → length (take (z - a) (drop a l)) ≡ z - a
 part_length l a z h g = length-take-le (z - a) (drop a l) (rw length-drop (omega arith))

@@ -23,17 +23,6 @@ use Rattle.motorist.proofs.Xors.{length-xors}
 use Rattle.plan.specs.Cut.{from_by, cut_by, Fits, stepped, eom_at}
 use Rattle.plan.specs.declared.Cut.{Cut}
 
-pub from_none : (rs n : ℕ) → n ≡ 0 → 0 ≡ from_by rs n
-from_none rs n e = rw e refl
-
-pub from_some : (rs n : ℕ) → (n ≡ 0 → ⊥) → rs ≡ from_by rs n
-from_some rs zero h = absurd (h refl)
-from_some rs (suc n) h = refl
-
-pub from_le : (rs n : ℕ) → from_by rs n ≤ rs
-from_le rs zero = omega arith
-from_le rs (suc n) = omega arith
-
 -- ---- the test of the loop
 goes_on_lem : (x t y m : ℕ) → (ltb x t || ltb y m) ≡ true → (x < t) ⊎ (y < m)
 goes_on_lem x t y m h = go (ltb x t) (ltb y m) refl refl h

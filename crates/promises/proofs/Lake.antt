@@ -1,4 +1,4 @@
--- The three demands at Lake, on its records. The outcomes that they speak of are those which lake::start, lake::wrap and lake::unwrap ensure:
+-- The three demands at Lake, on its records. The outcomes that they speak of are those which the methods start, wrap and unwrap of `keyak::Lake` ensure:
 -- `start_of`, `wrap_of` and `unwrap_of` at Lake's records.
 use mathlib.Core.Path.{◌≡◌, refl, ◌∙◌}
 use native.Mathlib.Omega.{arith}
@@ -14,7 +14,7 @@ use Rattle.calls.proofs.Closed.{total}
 use Rattle.calls.proofs.Right.{right}
 use Rattle.calls.proofs.Partner.{Long, partner}
 use Rattle.calls.proofs.Story.{story}
-use Rattle.lake.specs.Lake.{view_of, record_of, records}
+use Rattle.keyak.specs.Lake.{view_of, record_of, records}
 use Rattle.promises.proofs.Zeros.{zeros}
 
 -- ---- Lake's records serve it: each constructor's record shows what it should

@@ -1,4 +1,4 @@
--- The three demands at River, on its records. The outcomes that they speak of are those which river::start, river::wrap and river::unwrap ensure:
+-- The three demands at River, on its records. The outcomes that they speak of are those which the methods start, wrap and unwrap of `keyak::River` ensure:
 -- `start_of`, `wrap_of` and `unwrap_of` at River's records.
 use mathlib.Core.Path.{◌≡◌, refl, ◌∙◌}
 use native.Mathlib.Omega.{arith}
@@ -14,7 +14,7 @@ use Rattle.calls.proofs.Closed.{total}
 use Rattle.calls.proofs.Right.{right}
 use Rattle.calls.proofs.Partner.{Long, partner}
 use Rattle.calls.proofs.Story.{story}
-use Rattle.river.specs.River.{view_of, record_of, records}
+use Rattle.keyak.specs.River.{view_of, record_of, records}
 use Rattle.promises.proofs.Zeros.{zeros}
 
 -- ---- River's records serve it: each constructor's record shows what it should

@@ -1,33 +1,34 @@
-// Bytes of a file as a person may see them: between quotes, a byte that is no printable one by its number, and not too many.
-use crate::{byte, put};
+// Bytes as a person reads them: as digits, and those of a file between quotes, one that is not printable by its number, and not too many.
+use std::fmt;
 
-// How many are shown.
+// Two digits of base 16 for each.
+#[derive(Clone, Copy, Debug, PartialEq, Eq)]
+pub struct Hex<'a>(pub &'a [u8]);
+
+impl<'a> fmt::Display for Hex<'a> {
+    fn fmt<W: fmt::Write>(&self, f: &mut fmt::Formatter<W>) -> fmt::Result {
+        for byte in self.0 {
+            write!(f, "{byte:02x}")?;
+        }
+        Ok(())
+    }
+}
+
+// How many bytes are shown between quotes.
 const MOST: usize = 48;
 
-fn plain(b: u8) -> bool {
-    (0x20 <= b) & (b <= 0x7e) & (b != b'\\') & (b != b'"')
-}
+#[derive(Clone, Copy, Debug, PartialEq, Eq)]
+pub struct Quoted<'a>(pub &'a [u8]);
 
-fn one(to: &impl Print, b: u8) -> bool {
-    if plain(b) {
-        return put(to, &[b]);
+impl<'a> fmt::Display for Quoted<'a> {
+    fn fmt<W: fmt::Write>(&self, f: &mut fmt::Formatter<W>) -> fmt::Result {
+        f.write_str("\"")?;
+        for byte in self.0.iter().take(MOST) {
+            match byte {
+                0x20..=0x7e if *byte != b'"' && *byte != b'\\' => f.write_char(char::from(*byte))?,
+                _ => write!(f, "\\x{byte:02x}")?,
+            }
+        }
+        f.write_str(if MOST < self.0.len() { "...\"" } else { "\"" })
     }
-    put(to, b"\\x") & byte(to, b)
-}
-
-fn each(to: &impl Print, bytes: &[u8]) -> bool {
-    let mut all = true;
-    for b in bytes {
-        all = all & one(to, *b);
-    }
-    all
-}
-
-pub fn quoted(to: &impl Print, bytes: &[u8]) -> bool {
-    let n = slices::least(bytes.len(), MOST);
-    let begun = put(to, b"\"") & each(to, &bytes[0..n]);
-    if n < bytes.len() {
-        return begun & put(to, b"...\"");
-    }
-    begun & put(to, b"\"")
 }

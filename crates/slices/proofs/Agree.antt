@@ -1,16 +1,15 @@
 -- Two runs of bytes are the same exactly where they are equal; and compared with no branch, by gathering the bits that differ.
-use mathlib.Core.Path.{◌≡◌, refl, sym, ap₂, ◌∙◌}
+use mathlib.Core.Path.{◌≡◌, refl, sym, ap, ap₂, ◌∙◌}
 use mathlib.Core.Bool.{Bool, true, false, ◌&&◌}
-use mathlib.Core.List.{List, [], ◌∷◌, ◌++◌}
-use Prim.Native.Nat.{ℕ, ◌+◌, ◌<◌}
+use mathlib.Core.List.{List, [], ◌∷◌}
+use Prim.Native.Nat.{ℕ}
 use native.Mathlib.Decide.{ℕ_discrete}
-use native.Mathlib.Numerals.{add-one}
 use native.Mathlib.Omega.{arith}
 use borrow.Author.Tests.{eq-eqb, ne_eqb, eqb-true}
 use lib.Bits.{bit_or, bit_xor, or_add_and, xor_add_and, and_le_l, and_le_r, xor_self}
 use lib.Dec.{eqb}
-use lib.ListN.{length, get_or, take}
-use lib.Seq.{take-suc, length-take-le}
+use lib.ListN.{length}
+use Rattle.std.specs.List.{fold, zip}
 use Rattle.slices.specs.Same.{same_bytes}
 use Rattle.slices.proofs.Bools.{never, and_both}
 
@@ -60,17 +59,16 @@ and_assoc : (a b c : Bool) → (a && (b && c)) ≡ ((a && b) && c)
 and_assoc true b c = refl
 and_assoc false b c = refl
 
-same_snoc : (xs ys : List ℕ) (x y : ℕ) → length xs ≡ length ys → same_bytes (xs ++ x ∷ []) (ys ++ y ∷ []) ≡ (same_bytes xs ys && eqb x y)
-unfolding same_bytes
-same_snoc [] [] x y e = and_true (eqb x y)
-same_snoc [] (b ∷ ys) x y e = absurd (omega arith)
-same_snoc (a ∷ xs) [] x y e = absurd (omega arith)
-same_snoc (a ∷ xs) (b ∷ ys) x y e = rw (same_snoc xs ys x y (omega arith)) (and_assoc (eqb a b) (same_bytes xs ys) (eqb x y))
+abbrev pub gather_bits : ℕ → ℕ × ℕ → ℕ
+gather_bits d p = bit_or d (bit_xor p.0 p.1)
 
--- one byte more
-pub same_more : (s t : List ℕ) (i d : ℕ) → i < length s → i < length t → eqb d 0 ≡ same_bytes (take i s) (take i t)
-    → eqb (bit_or d (bit_xor (get_or s i 0) (get_or t i 0))) 0 ≡ same_bytes (take (i + 1) s) (take (i + 1) t)
-same_more s t i d h k e =
-    gather d (get_or s i 0) (get_or t i 0) (ℕ_discrete d 0) (ℕ_discrete (get_or s i 0) (get_or t i 0))
-    ∙ rw (e, add-one, take-suc s i 0 h, take-suc t i 0 k)
-    (sym (same_snoc (take i s) (take i t) (get_or s i 0) (get_or t i 0) (length-take-le i s (omega arith) ∙ sym (length-take-le i t (omega arith)))))
+-- all of them gathered, behind the bits d that were gathered before
+pub gathered : (xs ys : List ℕ) (d : ℕ) → length xs ≡ length ys → eqb (fold gather_bits d (zip xs ys)) 0 ≡ (eqb d 0 && same_bytes xs ys)
+unfolding same_bytes
+gathered [] [] d e = sym (and_true (eqb d 0))
+gathered [] (y ∷ ys) d e = absurd (omega arith)
+gathered (x ∷ xs) [] d e = absurd (omega arith)
+gathered (x ∷ xs) (y ∷ ys) d e =
+    gathered xs ys (bit_or d (bit_xor x y)) (omega arith)
+    ∙ ap (λ (b : Bool). b && same_bytes xs ys) (gather d x y (ℕ_discrete d 0) (ℕ_discrete x y))
+    ∙ sym (and_assoc (eqb d 0) (eqb x y) (same_bytes xs ys))

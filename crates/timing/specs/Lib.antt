@@ -1,4 +1,2 @@
 -- What C finds after one call of Lake and of River.
 pub mod Once
-pub mod OnceLake
-pub mod OnceRiver

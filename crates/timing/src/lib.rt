@@ -1,21 +1,98 @@
 // One call of Lake and of River at a time from C, on a session whose lanes C lends. Serves bench/timing, which marks them secret; no public call.
+// C has a name for each instance, so the exports here are two of each, with the numbers that C has for an answer and a start tag's use: each is the generic call of `once`.
 #![tactic(auto)]
 
-pub mod once_lake;
-pub mod once_river;
+mod once;
 
-ghost use Rattle.std.specs.Prelude.{◌≡◌};
-ghost use Rattle.timing.specs.Once.{use_of};
+ghost use Rattle.std.specs.Prelude.{◌≡◌, []};
+ghost use Rattle.keyak.specs.Lake.{lake_kind};
+ghost use Rattle.keyak.specs.River.{river_kind};
+ghost use Rattle.timing.specs.Once.{once, starting, wrapping, unwrapping};
 
-use table::StartTag;
-
-// The start tag's use as C numbers it: 0 for none, 1 for produced, any other for checked.
-fn use_of(choice: u8) -> StartTag
-    ensures { result ≡ use_of choice }
+#[unsafe(no_mangle)]
+pub extern "C" fn lake_start_once(
+    key: &[u8],
+    nonce: &[u8],
+    forget: bool,
+    choice: u8,
+    tag: &mut [u8],
+    lanes: &mut [u64; 25],
+) -> u8
+    ensures { once result lanes.new [] tag.new ≡ starting lake_kind key.now nonce.now forget choice tag.old }
 {
-    match choice {
-        0 => StartTag::None,
-        1 => StartTag::Produced,
-        _ => StartTag::Checked,
-    }
+    once::start(key, nonce, forget, choice, tag, lanes)
+}
+
+#[unsafe(no_mangle)]
+pub extern "C" fn lake_wrap_once(
+    lanes: &mut [u64; 25],
+    at: usize,
+    text: &[u8],
+    meta: &[u8],
+    forget: bool,
+    out: &mut [u8],
+    tag: &mut [u8],
+) -> u8
+    ensures { once result lanes.new out.new tag.new ≡ wrapping lake_kind lanes.old at text.now meta.now forget out.old tag.old }
+{
+    once::wrap(lanes, at, text, meta, forget, out, tag)
+}
+
+#[unsafe(no_mangle)]
+pub extern "C" fn lake_unwrap_once(
+    lanes: &mut [u64; 25],
+    at: usize,
+    text: &[u8],
+    meta: &[u8],
+    tag: &[u8],
+    forget: bool,
+    out: &mut [u8],
+) -> u8
+    ensures { once result lanes.new out.new tag.now ≡ unwrapping lake_kind lanes.old at text.now meta.now tag.now forget out.old }
+{
+    once::unwrap(lanes, at, text, meta, tag, forget, out)
+}
+
+#[unsafe(no_mangle)]
+pub extern "C" fn river_start_once(
+    key: &[u8],
+    nonce: &[u8],
+    forget: bool,
+    choice: u8,
+    tag: &mut [u8],
+    lanes: &mut [u32; 25],
+) -> u8
+    ensures { once result lanes.new [] tag.new ≡ starting river_kind key.now nonce.now forget choice tag.old }
+{
+    once::start(key, nonce, forget, choice, tag, lanes)
+}
+
+#[unsafe(no_mangle)]
+pub extern "C" fn river_wrap_once(
+    lanes: &mut [u32; 25],
+    at: usize,
+    text: &[u8],
+    meta: &[u8],
+    forget: bool,
+    out: &mut [u8],
+    tag: &mut [u8],
+) -> u8
+    ensures { once result lanes.new out.new tag.new ≡ wrapping river_kind lanes.old at text.now meta.now forget out.old tag.old }
+{
+    once::wrap(lanes, at, text, meta, forget, out, tag)
+}
+
+#[unsafe(no_mangle)]
+pub extern "C" fn river_unwrap_once(
+    lanes: &mut [u32; 25],
+    at: usize,
+    text: &[u8],
+    meta: &[u8],
+    tag: &[u8],
+    forget: bool,
+    out: &mut [u8],
+) -> u8
+    ensures { once result lanes.new out.new tag.now ≡ unwrapping river_kind lanes.old at text.now meta.now tag.now forget out.old }
+{
+    once::unwrap(lanes, at, text, meta, tag, forget, out)
 }

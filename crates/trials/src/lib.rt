@@ -1,8 +1,7 @@
-// What the programs that try the library share: the tally of what agreed, how it is written, bytes by a pattern, and lanes as bytes.
+// What the programs that try the library share: the tally of what agreed, bytes by a pattern, and lanes as bytes.
 // Serves those programs; no public call.
 #![tactic(auto)]
 
 pub mod lanes;
 pub mod pattern;
-pub mod say;
 pub mod tally;

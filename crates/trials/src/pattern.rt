@@ -1,39 +1,41 @@
 // Bytes by a pattern: what two words of a vector stand for, and the messages of the published hashes.
-ghost use Rattle.std.specs.Prelude.{◌<◌};
-
-use std::num::wrapping_add_u8;
+ghost use Rattle.std.specs.Prelude.{◌≡◌, ◌<◌, ◌%◌, ℕ, length, slice_index};
+ghost use Rattle.trials.specs.Byte.{byte_at};
 
 // Byte i is first + step * i + lift * (i / period), modulo 256; where `step` is 0, every byte is `first`.
-#[derive(Clone, Copy)]
+#[derive(Clone, Copy, Debug)]
 pub struct Pattern {
     pub first: u8,
     pub step: u8,
     pub period: usize,
     pub lift: u8,
+    ghost repeats: { 0 < period },
 }
 
-// The byte after x, where x stands at i.
-fn next(p: Pattern, x: u8, i: usize) -> u8
-    requires { 0 < p.period }
+// The lowest byte.
+fn low(n: usize) -> u8
+    ensures { result ≡ n % 256 }
 {
-    if p.step == 0 {
-        return x;
-    }
-    let y = wrapping_add_u8(x, p.step);
-    if i % p.period == p.period - 1 {
-        return wrapping_add_u8(y, p.lift);
-    }
-    y
+    n.to_le_bytes()[0]
 }
 
-pub fn fill(into: &mut [u8], p: Pattern)
-    requires { 0 < p.period }
-{
-    let mut x = p.first;
-    let mut i = 0;
-    while i < into.len() {
-        into[i] = x;
-        x = next(p, x, i);
-        i += 1;
+impl Pattern {
+    pub fn at(&self, i: usize) -> u8
+        ensures { result ≡ byte_at self.now.first self.now.step self.now.period self.now.lift i }
+    {
+        if self.step == 0 {
+            return self.first;
+        }
+        let steps = self.step.wrapping_mul(low(i));
+        let lifts = self.lift.wrapping_mul(low(i / self.period));
+        self.first.wrapping_add(steps).wrapping_add(lifts)
+    }
+
+    pub fn fill(&self, into: &mut [u8])
+        ensures { (k : ℕ) → k < length into.old → slice_index into.new k ≡ byte_at self.now.first self.now.step self.now.period self.now.lift k }
+    {
+        for (i, byte) in into.iter_mut().enumerate() {
+            *byte = self.at(i);
+        }
     }
 }

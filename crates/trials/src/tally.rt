@@ -1,55 +1,54 @@
 // How many comparisons agreed, how many differed, and how that is told, for the programs that try the library.
-use crate::say;
-use std::io;
-use std::num::wrapping_add_usize;
+ghost use Rattle.std.specs.Prelude.{◌≡◌, ◌+◌, ◌%◌, ◌^◌, true, false, not, Bool, List, count_by};
+ghost use Rattle.std.specs.Iterator.{IsFinite, Drains};
 
-#[derive(Clone, Copy)]
+use std::fmt;
+use std::ops::AddAssign;
+
+#[derive(Clone, Copy, Debug, Default, PartialEq, Eq)]
 pub struct Tally {
     pub agreed: usize,
     pub differed: usize,
 }
 
-pub fn none() -> Tally {
-    Tally {
-        agreed: 0,
-        differed: 0,
+impl Tally {
+    // Of comparisons, each of which agreed or not.
+    pub fn of<I: Iterator<Item = bool> + Drop>(comparisons: I) -> Tally
+        requires can { I.can_next comparisons }
+        requires ends { IsFinite (I.remaining comparisons) }
+        ensures { (xs : List Bool) × Drains I.next_gives comparisons xs × (result.agreed ≡ count_by (λ x. x) xs % 2 ^ 64) × (result.differed ≡ count_by not xs % 2 ^ 64) }
+    {
+        let mut tally = Tally::default();
+        for same in comparisons {
+            tally.note(same);
+        }
+        tally
+    }
+
+    // One comparison more.
+    pub fn note(&mut self, same: bool)
+        ensures agreed { same ≡ true → self.new ≡ record { agreed = (self.old.agreed + 1) % 2 ^ 64; differed = self.old.differed } }
+        ensures differed { same ≡ false → self.new ≡ record { agreed = self.old.agreed; differed = (self.old.differed + 1) % 2 ^ 64 } }
+    {
+        if same {
+            self.agreed = self.agreed.wrapping_add(1);
+        } else {
+            self.differed = self.differed.wrapping_add(1);
+        }
     }
 }
 
-// One comparison more.
-pub fn add(t: Tally, same: bool) -> Tally {
-    if same {
-        return Tally {
-            agreed: wrapping_add_usize(t.agreed, 1),
-            differed: t.differed,
-        };
-    }
-    Tally {
-        agreed: t.agreed,
-        differed: wrapping_add_usize(t.differed, 1),
+impl AddAssign for Tally {
+    ghost add_assign_gives = { λ t u s. s ≡ record { agreed = (t.agreed + u.agreed) % 2 ^ 64; differed = (t.differed + u.differed) % 2 ^ 64 } };
+
+    fn add_assign(&mut self, other: Tally) {
+        self.agreed = self.agreed.wrapping_add(other.agreed);
+        self.differed = self.differed.wrapping_add(other.differed);
     }
 }
 
-pub fn sum(s: Tally, t: Tally) -> Tally {
-    Tally {
-        agreed: wrapping_add_usize(s.agreed, t.agreed),
-        differed: wrapping_add_usize(s.differed, t.differed),
+impl fmt::Display for Tally {
+    fn fmt<W: fmt::Write>(&self, f: &mut fmt::Formatter<W>) -> fmt::Result {
+        write!(f, "{} agreed, {} differed", self.agreed, self.differed)
     }
-}
-
-// How it came out, within a line: `what` is the word for what agreed, with its space, or nothing.
-pub fn outcome(rt: &impl Print, what: &[u8], t: Tally) -> io::Result<()> {
-    say::number(rt, t.agreed)?;
-    say::text(rt, what)?;
-    say::text(rt, b" agreed, ")?;
-    say::number(rt, t.differed)?;
-    say::text(rt, b" differed")
-}
-
-// The line of a group: what was compared, and how it came out.
-pub fn tell(rt: &impl Print, group: &[u8], t: Tally) -> io::Result<()> {
-    say::text(rt, group)?;
-    say::text(rt, b": ")?;
-    outcome(rt, b"", t)?;
-    say::text(rt, b"\n")
 }

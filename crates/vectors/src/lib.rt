@@ -3,8 +3,8 @@
 // Serves the programs; no public call.
 #![tactic(auto)]
 
-pub mod compare;
+mod bytes;
 pub mod file;
 pub mod guard;
-pub mod read;
 pub mod tallies;
+pub mod words;

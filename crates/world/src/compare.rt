@@ -7,25 +7,20 @@ fn are_digits(b: u8, high: u8, low: u8) -> bool
     ensures { result ≡ (high == digit_of (b / 16) && low == digit_of b) }
 {
     let digits = b"0123456789abcdef";
-    (high == digits[(b / 16 % 16) as usize]) & (low == digits[(b % 16) as usize])
+    high == digits[usize::from(b / 16 % 16)] && low == digits[usize::from(b % 16)]
 }
 
 // Whether `hex` is `got` in hexadecimal: true is answered of nothing else.
 pub fn agrees(got: &[u8], hex: &[u8]) -> bool
     ensures { result ≡ true → hex.now ≡ hex_of got.now }
 {
-    if got.len() != hex.len() / 2 {
+    if hex.len() != 2 * got.len() {
         return false;
     }
-    if hex.len() % 2 != 0 {
-        return false;
-    }
-    let mut i = 0;
-    while i < got.len() {
-        if !are_digits(got[i], hex[2 * i], hex[2 * i + 1]) {
+    for (i, byte) in got.iter().enumerate() {
+        if !are_digits(*byte, hex[2 * i], hex[2 * i + 1]) {
             return false;
         }
-        i += 1;
     }
     true
 }

@@ -1,7 +1,8 @@
 // The sponge that SHA3, SHAKE and TurboSHAKE are, over the public permutation of 64-bit lanes.
-use keccak64::permute;
-use std::num::{wrapping_add_usize, wrapping_sub_usize};
-use trials::lanes::{byte64, part};
+ghost use Rattle.std.specs.Prelude.{◌<◌, ◌≤◌};
+
+use permutation::permute;
+use trials::lanes::{LaneBytes, State};
 
 // A kind of hash: the bytes of a block, the rounds of the permutation, and the byte that follows the message.
 #[derive(Clone, Copy)]
@@ -9,77 +10,46 @@ pub struct Kind {
     pub rate: usize,
     pub rounds: usize,
     pub suffix: u8,
+    ghost within: { (0 < rate) × (rate ≤ 200) },
 }
 
-// The state, and the byte of it that is next.
-#[derive(Clone, Copy)]
-struct Sponge {
-    lanes: [u64; 25],
-    at: usize,
-}
-
-// The state with `b` xored into byte `at`.
-fn mixed(lanes: [u64; 25], at: usize, b: u8) -> [u64; 25] {
-    let q = at / 8 % 25;
-    let mut s = lanes;
-    s[q] = s[q] ^ part(b, at % 8);
-    s
-}
-
-// One byte on; at the end of a block the permutation comes, and the first byte is next.
-fn next(k: Kind, lanes: [u64; 25], at: usize) -> Sponge {
-    let on = wrapping_add_usize(at, 1);
-    if on != k.rate {
-        return Sponge {
-            lanes: lanes,
-            at: on,
-        };
-    }
-    let p = permute(lanes, k.rounds);
-    let after = p.lanes;
-    Sponge {
-        lanes: after,
-        at: 0,
+fn mix(state: &mut State, bytes: &[u8]) {
+    for (to, byte) in state.iter_mut().zip(bytes) {
+        *to ^= *byte;
     }
 }
 
-fn absorbed(k: Kind, message: &[u8]) -> Sponge {
-    let mut s = Sponge {
-        lanes: [0; 25],
-        at: 0,
-    };
-    let mut i = 0;
-    while i < message.len() {
-        let lanes = s.lanes;
-        let at = s.at;
-        let one = next(k, mixed(lanes, at, message[i]), at);
-        s = one;
-        i += 1;
-    }
-    s
+fn permuted(kind: Kind, state: State) -> State {
+    let lanes: [u64; 25] = LaneBytes::from_bytes(state);
+    permute(lanes, kind.rounds).lanes.to_bytes()
 }
 
-fn squeeze(k: Kind, from: [u64; 25], out: &mut [u8]) {
-    let mut s = Sponge { lanes: from, at: 0 };
-    let mut i = 0;
-    while i < out.len() {
-        let lanes = s.lanes;
-        let at = s.at;
-        out[i] = byte64(lanes, at);
-        let one = next(k, lanes, at);
-        s = one;
-        i += 1;
+// The message and the byte after it in blocks, the last byte of the last block marked.
+fn absorbed(kind: Kind, message: &[u8]) -> State {
+    let blocks = message.chunks_exact(kind.rate);
+    let rest = blocks.remainder();
+    let mut state = [0; 200];
+    for block in blocks {
+        mix(&mut state, block);
+        state = permuted(kind, state);
+    }
+    mix(&mut state, rest);
+    state[rest.len()] ^= kind.suffix;
+    state[kind.rate - 1] ^= 0x80;
+    permuted(kind, state)
+}
+
+fn copy_front(state: &State, block: &mut [u8]) {
+    for (to, byte) in block.iter_mut().zip(state) {
+        *to = *byte;
     }
 }
 
-// The message and the byte after it in blocks, the last byte of the last block marked; then as many bytes as `out` has.
-pub fn hash(k: Kind, message: &[u8], out: &mut [u8]) {
-    let full = absorbed(k, message);
-    let lanes = full.lanes;
-    let at = full.at;
-    let ended = mixed(lanes, at, k.suffix);
-    let marked = mixed(ended, wrapping_sub_usize(k.rate, 1), 0x80);
-    let p = permute(marked, k.rounds);
-    let first = p.lanes;
-    squeeze(k, first, out);
+// As many bytes as `out` has, of the blocks that follow the message.
+pub fn hash(kind: Kind, message: &[u8], out: &mut [u8]) {
+    let mut state = absorbed(kind, message);
+    for block in out.chunks_mut(kind.rate) {
+        copy_front(&state, block);
+        state = permuted(kind, state);
+    }
 }

@@ -5,3 +5,4 @@
 pub mod file;
 pub mod line;
 pub mod month;
+mod words;

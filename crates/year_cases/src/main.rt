@@ -6,144 +6,151 @@
 mod unread;
 
 use std::rt::{Env, Files};
+use year_job::Words;
 
-// A case with the sample's key and nonce.
-fn on(rt: &(impl Files + Print), title: &[u8], word: &[u8], dips: &[u8]) {
-    show::put(rt, title);
-    year_job::run_on(rt, rt, word, dips, b"sample.key", b"sample.nonce");
-}
+// A case: its title, then the job's four words.
+type Case = [&'static str; 5];
 
-// A case with another key.
-fn keyed(rt: &(impl Files + Print), title: &[u8], word: &[u8], key: &[u8]) {
-    show::put(rt, title);
-    year_job::run_on(rt, rt, word, b"dips.txt", key, b"sample.nonce");
-}
+const KEY: &str = "sample.key";
 
-// A case with another nonce.
-fn once(rt: &(impl Files + Print), title: &[u8], nonce: &[u8]) {
-    show::put(rt, title);
-    year_job::run_on(rt, rt, b"river", b"dips.txt", b"sample.key", nonce);
+const NONCE: &str = "sample.nonce";
+
+const CASES: [Case; 23] = [
+    ["neither lake nor river", "sea", "dips.txt", KEY, NONCE],
+    ["a file that is not there", "lake", "absent.txt", KEY, NONCE],
+    ["a folder", "lake", ".", KEY, NONCE],
+    [
+        "a file of dips that is too long",
+        "lake",
+        "long.txt",
+        KEY,
+        NONCE,
+    ],
+    ["no month in the file", "lake", "empty.txt", KEY, NONCE],
+    ["a byte order mark", "lake", "mark.txt", KEY, NONCE],
+    [
+        "a byte order mark of UTF-16",
+        "lake",
+        "wide.txt",
+        KEY,
+        NONCE,
+    ],
+    ["a key of 15 bytes", "lake", "dips.txt", "short.key", NONCE],
+    [
+        "a key of 32 bytes and a line end",
+        "river",
+        "dips.txt",
+        "long.key",
+        NONCE,
+    ],
+    [
+        "a key file that is too long",
+        "lake",
+        "dips.txt",
+        "long.txt",
+        NONCE,
+    ],
+    [
+        "a nonce of 1025 bytes",
+        "river",
+        "dips.txt",
+        KEY,
+        "long.nonce",
+    ],
+    [
+        "a nonce file that is too long",
+        "river",
+        "dips.txt",
+        KEY,
+        "long.txt",
+    ],
+    ["lines that are no months", "lake", "bad.txt", KEY, NONCE],
+    [
+        "lines that are not of one borehole's year",
+        "river",
+        "mixed.txt",
+        KEY,
+        NONCE,
+    ],
+    ["a thirteenth month", "lake", "thirteen.txt", KEY, NONCE],
+    [
+        "a key of 16 bytes and a line end",
+        "lake",
+        "dips.txt",
+        "ended.key",
+        NONCE,
+    ],
+    [
+        "a well named #3, and a comment",
+        "lake",
+        "third.txt",
+        KEY,
+        NONCE,
+    ],
+    [
+        "wells may be named #, and lines may end in CR LF",
+        "river",
+        "hash.txt",
+        KEY,
+        NONCE,
+    ],
+    ["a well read daily", "river", "daily.txt", KEY, NONCE],
+    [
+        "a well that was given a new name",
+        "lake",
+        "renamed.txt",
+        KEY,
+        NONCE,
+    ],
+    [
+        "and one that was given several",
+        "river",
+        "names.txt",
+        KEY,
+        NONCE,
+    ],
+    ["a name a month", "lake", "twelve.txt", KEY, NONCE],
+    [
+        "a month left out as comments are not",
+        "lake",
+        "crossed.txt",
+        KEY,
+        NONCE,
+    ],
+];
+
+// The title is no word of the job's, so it goes to standard output in any case.
+fn run(rt: &(impl Files + Print), errors: &impl Print, case: Case) {
+    let [title, instance, dips, key, nonce] = case;
+    let words = Words {
+        instance: instance.as_bytes(),
+        dips: dips.as_bytes(),
+        key: key.as_bytes(),
+        nonce: nonce.as_bytes(),
+    };
+    show::tell(rt, format_args!("-- {title}"));
+    year_job::run_on(rt, errors, words);
 }
 
 fn elsewhere(rt: &(impl Files + Env + Print), errors: &impl Print) {
-    show::put(rt, b"-- no arguments: told on standard error\n");
+    show::tell(rt, "-- no arguments: told on standard error");
     year_job::run(rt, errors);
-    show::put(rt, b"-- wrong lines: told on standard error\n");
-    year_job::run_on(
-        rt,
-        errors,
-        b"lake",
-        b"bad.txt",
-        b"sample.key",
-        b"sample.nonce",
-    );
-}
-
-fn files(rt: &(impl Files + Print)) {
-    on(rt, b"-- neither lake nor river\n", b"sea", b"dips.txt");
-    on(rt, b"-- a file that is not there\n", b"lake", b"absent.txt");
-    on(rt, b"-- a folder\n", b"lake", b".");
-    on(
-        rt,
-        b"-- a file of dips that is too long\n",
-        b"lake",
-        b"long.txt",
-    );
-    on(rt, b"-- no month in the file\n", b"lake", b"empty.txt");
-    on(rt, b"-- a byte order mark\n", b"lake", b"mark.txt");
-    on(
-        rt,
-        b"-- a byte order mark of UTF-16\n",
-        b"lake",
-        b"wide.txt",
-    );
-}
-
-fn keys(rt: &(impl Files + Print)) {
-    keyed(rt, b"-- a key of 15 bytes\n", b"lake", b"short.key");
-    keyed(
-        rt,
-        b"-- a key of 32 bytes and a line end\n",
-        b"river",
-        b"long.key",
-    );
-    keyed(
-        rt,
-        b"-- a key file that is too long\n",
-        b"lake",
-        b"long.txt",
-    );
-    once(rt, b"-- a nonce of 1025 bytes\n", b"long.nonce");
-    once(rt, b"-- a nonce file that is too long\n", b"long.txt");
-}
-
-fn lines(rt: &(impl Files + Print)) {
-    on(rt, b"-- lines that are no months\n", b"lake", b"bad.txt");
-    on(
-        rt,
-        b"-- lines that are not of one borehole's year\n",
-        b"river",
-        b"mixed.txt",
-    );
-    on(rt, b"-- a thirteenth month\n", b"lake", b"thirteen.txt");
-}
-
-fn odd(rt: &(impl Files + Print)) {
-    keyed(
-        rt,
-        b"-- a key of 16 bytes and a line end\n",
-        b"lake",
-        b"ended.key",
-    );
-    on(
-        rt,
-        b"-- a well named #3, and a comment\n",
-        b"lake",
-        b"third.txt",
-    );
-    on(
-        rt,
-        b"-- wells may be named #, and lines may end in CR LF\n",
-        b"river",
-        b"hash.txt",
-    );
-    on(rt, b"-- a well read daily\n", b"river", b"daily.txt");
-}
-
-fn names(rt: &(impl Files + Print)) {
-    on(
-        rt,
-        b"-- a well that was given a new name\n",
-        b"lake",
-        b"renamed.txt",
-    );
-    on(
-        rt,
-        b"-- and one that was given several\n",
-        b"river",
-        b"names.txt",
-    );
-    on(rt, b"-- a name a month\n", b"lake", b"twelve.txt");
-    on(
-        rt,
-        b"-- a month left out as comments are not\n",
-        b"lake",
-        b"crossed.txt",
-    );
-}
-
-fn opened(output: &impl Print) {
-    show::put(output, b"-- months that were opened and cannot be read\n");
-    unread::run(output);
+    let wrong_lines = [
+        "wrong lines: told on standard error",
+        "lake",
+        "bad.txt",
+        KEY,
+        NONCE,
+    ];
+    run(rt, errors, wrong_lines);
 }
 
 fn main(rt: HostRuntime) {
     let errors = rt.stderr();
     elsewhere(&rt, &errors);
-    files(&rt);
-    keys(&rt);
-    lines(&rt);
-    odd(&rt);
-    names(&rt);
-    opened(&rt);
+    for case in CASES {
+        run(&rt, &rt, case);
+    }
+    show::tell(&rt, "-- months that were opened and cannot be read");
+    unread::run(&rt);
 }

@@ -1,9 +1,8 @@
-// A file into a buffer, all of it or nothing. Serves the main job.
-ghost use Rattle.std.specs.Prelude.{◌≤◌, length, IfOk, IfSome};
-
+// A file into a room that the caller lends, all of it or nothing. Serves the main job.
 use std::io::{ErrorKind, Read};
 use std::rt::Files;
 use std::{fs, io, str};
+use wrong::file::Input;
 
 // How long each file may be; wrong::file says the first. Of key and nonce more is read than either may have, so that the start refuses them.
 pub const DIPS: usize = 16384;
@@ -12,80 +11,65 @@ pub const KEY: usize = 64;
 
 pub const NONCE: usize = 2048;
 
-// What was read of a file: `ok` where it is all of it.
+// A file that was read, with its name.
 #[derive(Clone, Copy)]
-pub struct Loaded {
-    pub ok: bool,
-    pub length: usize,
+pub struct Loaded<'a> {
+    pub path: &'a str,
+    pub bytes: &'a [u8],
 }
 
-// Reads until the buffer is full or the file ends; how much was read.
-fn fill(file: &mut impl Read, into: &mut [u8]) -> io::Result<usize>
-    ensures { IfOk result (λ n. n ≤ length into.new) }
-{
+// Reads until the room is full or the file ends; what was read. A `read` takes what the system gives, so it counts; std's `read_to_end` wants the
+// heap. The loop of the program sessions is another: it keeps what came before a failure, which is told here.
+fn fill<'a>(file: &mut impl Read, room: &'a mut [u8]) -> io::Result<&'a [u8]> {
     let mut done = 0;
-    while done < into.len() {
-        let n = file.read(&mut into[done..])?;
+    while done < room.len() {
+        let n = file.read(&mut room[done..])?;
         if n == 0 {
             break;
         }
         done += n;
     }
-    Ok(done)
+    Ok(&room[..done])
 }
 
-// The end of a file that was read into a buffer: whether there is no more.
+// Whether there is no more of a file.
 fn is_read(file: &mut impl Read) -> io::Result<bool> {
-    let mut more = [0u8; 1];
-    let got = file.read(&mut more)?;
-    Ok(got == 0)
+    Ok(file.read(&mut [0; 1])? == 0)
 }
 
-// Reads a file; how long it is, or `None` where there is more of it than the buffer holds. No name that is not UTF-8 can be opened.
-fn read(files: &impl Files, path: &[u8], into: &mut [u8]) -> io::Result<Option<usize>>
-    ensures { IfOk result (λ found. IfSome found (λ n. n ≤ length into.new)) }
-{
+// A file by its name, or `None` where there is more of it than the room holds. No name that is not UTF-8 can be opened.
+fn read<'a>(
+    files: &impl Files,
+    path: &'a [u8],
+    room: &'a mut [u8],
+) -> io::Result<Option<Loaded<'a>>> {
     match str::from_utf8(path) {
         Err(_) => Err(io::Error::from(ErrorKind::InvalidInput)),
-        Ok(name) => {
-            let mut file = fs::open(files, name)?;
-            let length = fill(&mut file, into)?;
-            if is_read(&mut file)? {
-                return Ok(Some(length));
-            }
-            Ok(None)
+        Ok(path) => {
+            let mut file = fs::open(files, path)?;
+            let bytes = fill(&mut file, room)?;
+            Ok(is_read(&mut file)?.then_some(Loaded { path, bytes }))
         }
     }
 }
 
-fn not_loaded() -> Loaded
-    ensures { result.length ≤ 0 }
-{
-    Loaded {
-        ok: false,
-        length: 0,
-    }
-}
-
-// `what` is the number by which a start would refuse a file that is too long, or 0 for the file of dips.
-pub fn load(
+// What keeps it from being read is told.
+pub fn load<'a>(
     files: &impl Files,
     errors: &impl Print,
-    path: &[u8],
-    into: &mut [u8],
-    what: u8,
-) -> Loaded
-    ensures { result.length ≤ length into.new }
-{
-    match read(files, path, into) {
-        Ok(Some(length)) => Loaded { ok: true, length },
+    path: &'a [u8],
+    room: &'a mut [u8],
+    input: Input,
+) -> Option<Loaded<'a>> {
+    match read(files, path, room) {
+        Ok(Some(loaded)) => Some(loaded),
         Ok(None) => {
-            wrong::file::too_long(errors, path, what);
-            not_loaded()
+            wrong::file::too_long(errors, path, input);
+            None
         }
         Err(error) => {
             wrong::file::unread(errors, path, error.kind());
-            not_loaded()
+            None
         }
     }
 }

@@ -1,234 +1,118 @@
-// The year sealed on one session and opened on a second, each by one walk over its packets. Serves the main job.
-ghost use Rattle.std.specs.Prelude.{◌≤◌, ◌*◌, ◌≡◌, length};
-ghost use Rattle.packets.specs.Packet.{packet_bytes, year_bytes};
+// The year sealed on one channel and opened on a second, each by one walk over its months. Serves the main job.
+use crate::files::Loaded;
+use crate::report::Report;
+use crate::{attacks, opened};
+use channel::{Channel, Instance, Secrets};
+use packets::{HEADER, Packet, READINGS};
+use table::{Refusal, StartTag, TAG_BYTES};
+use year_text::{Found, Month};
 
-use crate::{attacks, opened, rows};
-use channel::{Channel, Instance};
-use table::StartTag;
-use year_text::Found;
-
-// Answers the number of the last wrap that was refused, or 0: from a refusal on, the months that follow could not be opened.
-fn seal_all(channel: Channel, plain: &[u8], months: usize, sealed: &mut [u8]) -> u8
-    requires { (length plain.now ≡ year_bytes) × (length sealed.old ≡ year_bytes) × (months ≤ 12) }
-    ensures { length sealed.new ≡ year_bytes }
-{
-    let mut session = channel;
-    let mut number = table::DONE;
-    for i in 0..months {
-        let start = packets::PACKET * i;
-        let end = start + packets::PACKET;
-        let step = channel::seal(session, packets::at(plain, i), &mut sealed[start..end]);
-        let answer = step.answer;
-        let next = step.channel;
-        session = next;
-        number = table::or_else(answer.number != table::DONE, answer.number, number);
+// The months' packets sealed, in a year's room. The first refusal ends it: what a packet hands to a wrap has lengths that it takes, so that it could
+// only be a session that was not started, which is refused each month alike.
+fn seal_all<L: Instance>(
+    mut channel: Channel<L>,
+    months: &[Month],
+) -> Result<[Packet; 12], Refusal> {
+    let mut sealed = [Packet::EMPTY; 12];
+    for (packet, month) in sealed.iter_mut().zip(months) {
+        *packet = channel.seal(&month.packet)?;
     }
-    number
+    Ok(sealed)
 }
 
-// What opening a month gives: the session for the next, whether it could be read, whether the readings are those that were sealed, and
-// whether its row was written.
-#[derive(Clone, Copy)]
-struct Opened {
-    channel: Channel,
-    read: bool,
-    same: bool,
-    written: bool,
-}
-
-// A month that was opened: its row, and whether its readings can be read and are those of the plain packet.
-fn shown(
-    output: &impl Print,
-    errors: &impl Print,
-    channel: Channel,
-    sealed: &[u8],
-    readings: &[u8],
-    plain: &[u8],
-    runs: usize,
-) -> Opened
-    requires { (length sealed.now ≡ packet_bytes) × (length plain.now ≡ packet_bytes) }
-{
-    let row = opened::month(output, errors, sealed, readings, runs);
-    Opened {
-        channel,
-        read: row.read,
-        same: slices::same(readings, packets::text(plain)),
-        written: row.written,
-    }
-}
-
-fn open_month(
-    output: &impl Print,
-    errors: &impl Print,
-    channel: Channel,
-    sealed: &[u8],
-    plain: &[u8],
-) -> Opened
-    requires { (length sealed.now ≡ packet_bytes) × (length plain.now ≡ packet_bytes) }
-{
-    let mut out = [0u8; packets::READINGS];
-    let step = channel::unseal(channel, sealed, packets::HEADER, &mut out);
-    let n = packets::text_length(sealed);
-    let answer = step.answer;
-    let next = step.channel;
-    if answer.number != table::DONE {
-        wrong::file::unopened(errors, answer.number);
-        return Opened {
-            channel: next,
-            read: false,
-            same: false,
-            written: true,
-        };
-    }
-    shown(output, errors, next, sealed, &out[0..n], plain, answer.runs)
-}
-
-// All months, one after the other; what holds of each is held of all.
-fn open_all(
-    output: &impl Print,
-    errors: &impl Print,
-    channel: Channel,
-    sealed: &[u8],
-    plain: &[u8],
-    months: usize,
-) -> Opened
-    requires { (length sealed.now ≡ year_bytes) × (length plain.now ≡ year_bytes) × (months ≤ 12) }
-{
-    let mut session = channel;
-    let mut read = true;
-    let mut same = true;
-    let mut written = true;
-    for i in 0..months {
-        let opened = open_month(
-            output,
-            errors,
-            session,
-            packets::at(sealed, i),
-            packets::at(plain, i),
-        );
-        let next = opened.channel;
-        session = next;
-        read = read & opened.read;
-        same = same & opened.same;
-        written = written & opened.written;
-    }
-    Opened {
-        channel: session,
-        read,
-        same,
-        written,
-    }
-}
-
-// The months opened on the second session, the names that the borehole goes by, then what the session must refuse.
-fn open_year(
-    output: &impl Print,
-    errors: &impl Print,
-    second: Channel,
-    sealed: &[u8],
-    plain: &[u8],
-    found: Found,
-    begun: bool,
-)
-    requires { (length sealed.now ≡ year_bytes) × (length plain.now ≡ year_bytes) × (found.months ≤ 12) }
-{
-    let opened = open_all(output, errors, second, sealed, plain, found.months);
-    let named = year_text::names::tell(output, plain, found.months);
-    let tries = attacks::try_all(output, second, sealed, found.months);
-    let written = begun & opened.written & named & tries.written;
-    if !rows::foot(
-        output,
-        found,
-        opened.same,
-        opened.read,
-        tries.refused,
-        written,
-    ) {
-        wrong::file::unwritten(errors);
-    }
-}
-
-// The second session, which checks the start tag of the first.
-fn receive(
-    output: &impl Print,
-    errors: &impl Print,
-    instance: Instance,
-    key: &[u8],
-    nonce: &[u8],
-    tag: &mut [u8],
-    sealed: &[u8],
-    plain: &[u8],
-    found: Found,
-)
-    requires { (length sealed.now ≡ year_bytes) × (length plain.now ≡ year_bytes) × (found.months ≤ 12) }
-{
-    let receiver = channel::start(instance, key, nonce, StartTag::Checked, tag);
-    let answer = receiver.answer;
-    if answer.number != table::DONE {
-        return wrong::file::unstarted(errors, answer.number);
-    }
-    let begun = rows::head(output, instance, tag);
-    open_year(
-        output,
-        errors,
-        receiver.channel,
-        sealed,
-        plain,
-        found,
-        begun,
-    );
-}
-
-// The months sealed on the first session.
-pub fn send(
-    output: &impl Print,
-    errors: &impl Print,
-    instance: Instance,
-    key: &[u8],
-    nonce: &[u8],
-    plain: &[u8],
-    found: Found,
-)
-    requires { (length plain.now ≡ year_bytes) × (found.months ≤ 12) }
-{
-    let mut tag = [0u8; table::TAG_BYTES];
-    let mut sealed = [0u8; packets::YEAR];
-    let sender = channel::start(instance, key, nonce, StartTag::Produced, &mut tag);
-    let answer = sender.answer;
-    if answer.number != table::DONE {
-        return wrong::file::unstarted(errors, answer.number);
-    }
-    let first = sender.channel;
-    let number = seal_all(first, plain, found.months, &mut sealed);
-    if number != table::DONE {
-        return wrong::file::unsealed(errors, number);
-    }
-    receive(
-        output, errors, instance, key, nonce, &mut tag, &sealed, plain, found,
-    );
-}
-
-pub fn run(
-    output: &impl Print,
-    errors: &impl Print,
-    instance: Instance,
-    path: &[u8],
-    text: &[u8],
-    key: &[u8],
-    nonce: &[u8],
+// A month opened on the second channel: its row, and whether its readings can be read and are those of the plain packet.
+fn open_month<L: Instance>(
+    report: &mut Report<'_, impl Print, impl Print>,
+    channel: &mut Channel<L>,
+    sealed: &Packet,
+    plain: &Packet,
 ) {
-    let mut plain = [0u8; packets::YEAR];
-    if line_text::has_mark(text) {
-        wrong::file::marked(errors, path);
+    let mut out = [0; READINGS];
+    match channel.unseal(sealed, HEADER, &mut out) {
+        Ok(done) => {
+            let readings = &out[..sealed.text_length()];
+            opened::month(report, sealed, readings, done.runs);
+            report.same &= readings == plain.text();
+        }
+        Err(why) => {
+            wrong::file::unopened(report.errors, why);
+            report.read = false;
+            report.same = false;
+        }
+    }
+}
+
+// The months opened on the second channel, the names that the borehole goes by, then what the channel must refuse.
+fn open_year<L: Instance>(
+    report: &mut Report<'_, impl Print, impl Print>,
+    second: Channel<L>,
+    sealed: &[Packet],
+    months: &[Month],
+) {
+    let mut channel = second;
+    for (packet, month) in sealed.iter().zip(months) {
+        open_month(report, &mut channel, packet, &month.packet);
+    }
+    report.names(months);
+    attacks::try_all(report, second, sealed);
+}
+
+// The second side, which checks the start tag of the first.
+fn receive<L: Instance>(
+    report: &mut Report<'_, impl Print, impl Print>,
+    secrets: Secrets<'_>,
+    tag: &mut [u8],
+    sealed: &[Packet],
+    found: &Found,
+) {
+    match Channel::<L>::start(secrets, StartTag::Checked, tag) {
+        Ok(second) => {
+            report.head(L::NAME, tag);
+            open_year(report, second, sealed, found.year.months());
+            report.foot(found);
+        }
+        Err(why) => wrong::file::unstarted(report.errors, why),
+    }
+}
+
+// The months sealed on the first side, then the second.
+pub fn send<L: Instance>(
+    mut report: Report<'_, impl Print, impl Print>,
+    secrets: Secrets<'_>,
+    found: &Found,
+) {
+    let mut tag = [0; TAG_BYTES];
+    match Channel::<L>::start(secrets, StartTag::Produced, &mut tag) {
+        Ok(first) => match seal_all(first, found.year.months()) {
+            Ok(sealed) => receive::<L>(
+                &mut report,
+                secrets,
+                &mut tag,
+                &sealed[..found.year.len],
+                found,
+            ),
+            Err(why) => wrong::file::unsealed(report.errors, why),
+        },
+        Err(why) => wrong::file::unstarted(report.errors, why),
+    }
+}
+
+pub fn run<L: Instance>(
+    report: Report<'_, impl Print, impl Print>,
+    secrets: Secrets<'_>,
+    dips: Loaded<'_>,
+) {
+    let errors = report.errors;
+    if line_text::has_mark(dips.bytes) {
+        wrong::file::marked(errors, dips.path.as_bytes());
         return wrong::file::nothing(errors);
     }
-    let found = year_text::read_dips(errors, text, &mut plain);
-    if !found.ok {
-        return wrong::file::nothing(errors);
+    match year_text::read_dips(errors, dips.bytes) {
+        Some(found) if found.year.len > 0 => send::<L>(report, secrets, &found),
+        Some(_) => {
+            wrong::file::no_month(errors, dips.path.as_bytes());
+            wrong::file::nothing(errors);
+        }
+        None => wrong::file::nothing(errors),
     }
-    if found.months == 0 {
-        wrong::file::no_month(errors, path);
-        return wrong::file::nothing(errors);
-    }
-    send(output, errors, instance, key, nonce, &plain, found);
 }

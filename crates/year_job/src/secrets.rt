@@ -1,75 +1,75 @@
 // Whether the start takes key and nonce, and what is said of their files: a line end at the end of one, which editors add, is the
 // usual reason why two sides do not understand each other. Serves the main job.
-use channel::Instance;
-use table::StartTag;
+use crate::files::Loaded;
+use channel::{Channel, Instance, Secrets};
+use show::Refused;
+use std::fmt;
+use table::{Refusal, StartTag, TAG_BYTES};
 
-fn ends_in_line_end(bytes: &[u8]) -> bool {
-    let n = bytes.len();
-    if n == 0 {
-        return false;
-    }
-    bytes[n - 1] == b'\n'
+fn ends_in_line_end(file: Loaded<'_>) -> bool {
+    file.bytes.ends_with(b"\n")
 }
 
-fn has(errors: &impl Print, path: &[u8], bytes: &[u8]) {
-    show::put(errors, path);
-    show::put(errors, b" has ");
-    show::number(errors, bytes.len());
-    if bytes.len() == 1 {
-        show::put(errors, b" byte");
+// Of which file it is, and how long that is.
+#[derive(Clone, Copy)]
+struct Size<'a>(Loaded<'a>);
+
+impl fmt::Display for Size<'_> {
+    fn fmt<W: fmt::Write>(&self, f: &mut fmt::Formatter<W>) -> fmt::Result {
+        let path = self.0.path;
+        let n = self.0.bytes.len();
+        let unit = if n == 1 { "byte" } else { "bytes" };
+        write!(f, "{path} has {n} {unit}")
+    }
+}
+
+fn refused(errors: &impl Print, file: Loaded<'_>, why: Refusal) {
+    let size = Size(file);
+    let why = Refused(why);
+    let end = if ends_in_line_end(file) {
+        "; the last byte is a line end, which editors add"
     } else {
-        show::put(errors, b" bytes");
-    }
-}
-
-fn refused(errors: &impl Print, path: &[u8], bytes: &[u8], number: u8) {
-    has(errors, path, bytes);
-    show::put(errors, b": ");
-    show::refused(errors, number);
-    if ends_in_line_end(bytes) {
-        show::put(errors, b"; the last byte is a line end, which editors add");
-    }
-    show::put(errors, b"\n");
+        ""
+    };
+    show::tell(errors, format_args!("{size}: {why}{end}"));
 }
 
 // A line end may be meant, so it stays; but it is told.
-fn note(errors: &impl Print, path: &[u8], bytes: &[u8]) {
-    if ends_in_line_end(bytes) {
-        show::put(errors, b"note: ");
-        has(errors, path, bytes);
-        show::put(
+fn note(errors: &impl Print, file: Loaded<'_>) {
+    if ends_in_line_end(file) {
+        let size = Size(file);
+        show::tell(
             errors,
-            b", the last a line end, which editors add; it is taken as a part of it\n",
+            format_args!(
+                "note: {size}, the last a line end, which editors add; it is taken as a part of it"
+            ),
         );
     }
 }
 
-// The number of a start with both.
-fn start_number(instance: Instance, key: &[u8], nonce: &[u8]) -> u8 {
-    let mut tag = [0u8; table::TAG_BYTES];
-    let step = channel::start(instance, key, nonce, StartTag::None, &mut tag);
-    let answer = step.answer;
-    answer.number
-}
-
-pub fn usable(
+// Both, where a start takes them.
+pub fn usable<'a, L: Instance>(
     errors: &impl Print,
-    instance: Instance,
-    key_path: &[u8],
-    key: &[u8],
-    nonce_path: &[u8],
-    nonce: &[u8],
-) -> bool {
-    let number = start_number(instance, key, nonce);
-    if number == table::KEY_LENGTH {
-        refused(errors, key_path, key, number);
-        return false;
+    key: Loaded<'a>,
+    nonce: Loaded<'a>,
+) -> Option<Secrets<'a>> {
+    let secrets = Secrets {
+        key: key.bytes,
+        nonce: nonce.bytes,
+    };
+    match Channel::<L>::start(secrets, StartTag::None, &mut [0; TAG_BYTES]) {
+        Err(Refusal::KeyLength) => {
+            refused(errors, key, Refusal::KeyLength);
+            None
+        }
+        Err(Refusal::NonceLength) => {
+            refused(errors, nonce, Refusal::NonceLength);
+            None
+        }
+        _ => {
+            note(errors, key);
+            note(errors, nonce);
+            Some(secrets)
+        }
     }
-    if number == table::NONCE_LENGTH {
-        refused(errors, nonce_path, nonce, number);
-        return false;
-    }
-    note(errors, key_path, key);
-    note(errors, nonce_path, nonce);
-    true
 }

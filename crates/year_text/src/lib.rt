@@ -1,10 +1,12 @@
-// A file of dips as one borehole's year: its months as plain packets, what is told of the lines that do not stand, and of the names that the
-// borehole goes by. Serves the main job.
+// A file of dips as one borehole's year: its months with their plain packets, what is told of the lines that do not stand, and of the names
+// that the borehole goes by. Serves the main job.
 #![tactic(auto)]
 
-mod headers;
 mod months;
 pub mod names;
 mod one_year;
+mod reader;
+mod wrong_line;
 
-pub use months::{Found, read_dips};
+pub use months::{Month, Year};
+pub use reader::{Found, read_dips};

@@ -3,7 +3,7 @@ use Rattle.std.proofs.Common.{length, ◌-◌, ◌≤◌, ◌≡◌}
 use Rattle.year_job.proofs.files.fill.Given as goal
 
 abbrev pub invariant-loop-done : goal.invariant-loop-done
-invariant-loop-done g l = (length l.into ≡ length l.initial.into) × (l.done ≤ length l.into)
+invariant-loop-done g l = (length l.room ≡ length l.initial.room) × (l.done ≤ length l.room)
 
 abbrev pub decreases-loop-done : goal.decreases-loop-done
-decreases-loop-done g l = length l.into - l.done
+decreases-loop-done g l = length l.room - l.done

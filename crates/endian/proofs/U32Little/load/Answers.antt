@@ -1,0 +1,8 @@
+-- The proof that `u32::load` meets its contract.
+use native.Mathlib.Omega.{arith}
+use borrow.Author.Rules.{rules}
+use Rattle.endian.proofs.Laws.{loaded}
+use Rattle.endian.proofs.U32Little.load.Goals as goal
+
+pub returns : goal.returns
+returns c = omega (arith, loaded 4 c.args.s.now (search rules), c.from_le_bytes.ensures)

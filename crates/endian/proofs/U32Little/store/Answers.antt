@@ -1,0 +1,7 @@
+-- The proof that `u32::store` meets its contract.
+use mathlib.Core.Path.{sym, ◌∙◌}
+use Rattle.endian.proofs.Laws.{stored}
+use Rattle.endian.proofs.U32Little.store.Goals as goal
+
+pub returns : goal.returns
+returns c = c.copy_from_slice.ensures.after ∙ c.to_le_bytes.ensures ∙ sym (stored 4 c.args.self)

@@ -1,0 +1,176 @@
+// The Engine and the Motorist on lanes of either width, for one Piston: a group of blocks, a knot, a whole message and a whole start.
+// Serves the calls, which know the session; here are lanes, a place where text starts and slices. No public call.
+#![tactic(auto)]
+
+ghost use Rattle.std.specs.Prelude.{◌≡◌, [], ◌∷◌, ◌+◌, ◌%◌, ◌≤◌, ◌<◌, length, take, drop};
+ghost use Rattle.keccak.specs.State.{bytes, keccak_bytes};
+ghost use Rattle.lanes.specs.Width.{instance};
+ghost use Rattle.motorist.specs.Instance.{text_rate, full_rate, pack_length, chain_length};
+ghost use Rattle.motorist.specs.Piston.{block, absorb};
+ghost use Rattle.motorist.specs.Engine.{group};
+ghost use Rattle.motorist.specs.Rode.{Rode};
+ghost use Rattle.motorist.specs.Motorist.{message, start};
+ghost use Rattle.plan.specs.Start.{start_bytes, start_group};
+
+use lanes::Lanes;
+use plan::Opening;
+use rates::{ByteCount, Rates};
+
+// The most bytes that a state has: room for one block of a start.
+const STATE_BYTES: usize = 200;
+
+// The lanes after some blocks, and how many they were.
+#[derive(Clone, Copy, Debug, PartialEq, Eq)]
+pub struct Ran<L> {
+    pub lanes: L,
+    pub runs: usize,
+}
+
+// A group: all of the text, from byte `at` of its first block on, with metadata beside it, then the metadata that is left.
+fn group<L: Lanes>(
+    lanes: L,
+    at: ByteCount,
+    text: &[u8],
+    meta: &[u8],
+    eom: u8,
+    out: &mut [u8],
+    decrypt: bool,
+) -> Ran<L>
+    requires at_bound { (at.0 < text_rate (instance L.L)) × (at.0 % L.BYTES ≡ 0) × (length text.now ≤ length out.old) }
+    requires text_len_bound { (length text.now ≤ 65535) × (length meta.now ≤ 65535) }
+    ensures rode { Rode (group (instance L.L) (keccak_bytes L.L 12) decrypt (bytes L.BYTES (L.lanes lanes) ∷ []) at.0 text.now meta.now (eom ∷ [])) (length text.now) out.old (bytes L.BYTES (L.lanes result.lanes)) out.new result.runs }
+    ensures runs_bound { result.runs ≤ 131071 }
+{
+    let mut state = lanes;
+    let mut runs = 0;
+    let whole = plan::Group {
+        rates: Rates::of::<L>(),
+        text: ByteCount::of(text),
+        meta: ByteCount::of(meta),
+    };
+    let mut cut = whole.first(at);
+    // A `for` has nothing to go over here: whether a block is left shows when the one before it is cut.
+    let mut going = true;
+    while going {
+        let more = whole.more(cut);
+        let mark = plan::eom_at(more, eom);
+        state = blocks::block(state, cut, text, meta, mark, out, decrypt);
+        runs += 1;
+        cut = whole.next(cut);
+        going = more;
+    }
+    Ran { lanes: state, runs }
+}
+
+// A knot: the chaining value goes in as metadata of one new block.
+fn knot<L: Lanes>(lanes: L, eom: u8) -> L
+    ensures { bytes L.BYTES (L.lanes result) ≡ absorb (keccak_bytes L.L 12) (bytes L.BYTES (L.lanes lanes)) (block (instance L.L) 0 [] 0 (take (chain_length (instance L.L)) (bytes L.BYTES (L.lanes lanes))) eom) }
+{
+    let mut value = [0u8; rates::CHAIN_BYTES.0];
+    piston::squeeze(lanes, &mut value);
+    blocks::inject(lanes, &value, eom)
+}
+
+// A whole message.
+pub fn message<L: Lanes>(
+    lanes: L,
+    at: ByteCount,
+    text: &[u8],
+    meta: &[u8],
+    forget: bool,
+    out: &mut [u8],
+    decrypt: bool,
+) -> Ran<L>
+    requires at_bound { (at.0 < text_rate (instance L.L)) × (at.0 % L.BYTES ≡ 0) × (length text.now ≤ length out.old) }
+    requires text_len_bound { (length text.now ≤ 65535) × (length meta.now ≤ 65535) }
+    ensures { Rode (message (instance L.L) (keccak_bytes L.L 12) decrypt (bytes L.BYTES (L.lanes lanes) ∷ []) at.0 (record { text = text.entry.now; meta = meta.now; forgets = forget })) (length text.entry.now) out.old (bytes L.BYTES (L.lanes result.lanes)) out.new result.runs }
+{
+    let rates = Rates::of::<L>();
+    let eom = plan::eom_tag(rates);
+    // Forgetting is a choice of the caller from outside, and a knot more is what it means: a closure would be no plainer, here and in `start`.
+    if forget {
+        let chained = group(lanes, at, text, meta, rates.chain.as_byte(), out, decrypt);
+        return Ran {
+            lanes: knot(chained.lanes, eom),
+            runs: chained.runs + 1,
+        };
+    }
+    group(lanes, at, text, meta, eom, out, decrypt)
+}
+
+// One block of a start, by way of a lent part of its length: what it injects from byte `done` on.
+fn start_block_in<L: Lanes>(
+    lanes: L,
+    opening: Opening<'_>,
+    done: ByteCount,
+    part: &mut [u8],
+    eom: u8,
+) -> L
+    requires { (length part.old ≤ full_rate (instance L.L)) × (done.0 + length part.old ≤ length (start_bytes opening.pack.0 opening.key.now opening.nonce.now)) }
+    ensures { bytes L.BYTES (L.lanes result) ≡ absorb (keccak_bytes L.L 12) (bytes L.BYTES (L.lanes lanes)) (block (instance L.L) 0 [] 0 (take (length part.old) (drop done.0 (start_bytes opening.entry.pack.0 opening.entry.key.now opening.entry.nonce.now))) eom) }
+{
+    opening.part(done, part);
+    blocks::inject(lanes, part, eom)
+}
+
+// The same with n bytes.
+fn start_block<L: Lanes>(
+    lanes: L,
+    opening: Opening<'_>,
+    done: ByteCount,
+    n: ByteCount,
+    eom: u8,
+) -> L
+    requires { (n.0 ≤ full_rate (instance L.L)) × (done.0 + n.0 ≤ length (start_bytes opening.pack.0 opening.key.now opening.nonce.now)) }
+    ensures { bytes L.BYTES (L.lanes result) ≡ absorb (keccak_bytes L.L 12) (bytes L.BYTES (L.lanes lanes)) (block (instance L.L) 0 [] 0 (take n.0 (drop done.0 (start_bytes opening.entry.pack.0 opening.entry.key.now opening.entry.nonce.now))) eom) }
+{
+    // No heap: a block's worth at a time goes through a buffer of fixed size.
+    let mut buffer = [0u8; STATE_BYTES];
+    start_block_in(lanes, opening, done, &mut buffer[..n.0], eom)
+}
+
+// The blocks of a start, without its knot: key pack, nonce, number and index of the Piston, a block's worth at a time.
+fn start_group<L: Lanes>(opening: Opening<'_>, eom: u8) -> Ran<L>
+    requires { opening.pack.0 ≡ pack_length (instance L.L) }
+    ensures lanes_value { bytes L.BYTES (L.lanes result.lanes) ∷ [] ≡ (start_group (instance L.L) (keccak_bytes L.L 12) opening.entry.key.now opening.entry.nonce.now eom).states }
+    ensures runs_value { (result.runs ≡ length (start_group (instance L.L) (keccak_bytes L.L 12) opening.entry.key.now opening.entry.nonce.now eom).blocks) × (result.runs ≤ 2000) }
+{
+    let full = Rates::of::<L>().full;
+    let total = opening.length();
+    let mut state = L::zero();
+    let mut done = ByteCount(0);
+    let mut runs = 0;
+    // A `for` over steps of `full` would have to count the whole blocks first: the last part, full or not, is not the loop's.
+    while full < total - done {
+        state = start_block(state, opening, done, full, 0);
+        done = done + full;
+        runs += 1;
+    }
+    Ran {
+        lanes: start_block(state, opening, done, total - done, eom),
+        runs: runs + 1,
+    }
+}
+
+// A whole start.
+pub fn start<L: Lanes>(key: &[u8], nonce: &[u8], forget: bool, tagged: bool) -> Ran<L>
+    requires { (length key.now ≤ 32) × (length nonce.now ≤ 1024) }
+    ensures lanes_value { bytes L.BYTES (L.lanes result.lanes) ∷ [] ≡ (start (instance L.L) (keccak_bytes L.L 12) (record { key = key.entry.now; nonce = nonce.now; tagged = tagged; forgets = forget })).states }
+    ensures runs_value { result.runs ≡ length (start (instance L.L) (keccak_bytes L.L 12) (record { key = key.entry.now; nonce = nonce.now; tagged = tagged; forgets = forget })).blocks }
+{
+    let rates = Rates::of::<L>();
+    let opening = Opening {
+        pack: rates.pack,
+        key,
+        nonce,
+    };
+    let eom = plan::eom_of(rates, tagged);
+    if forget {
+        let chained = start_group(opening, rates.chain.as_byte());
+        return Ran {
+            lanes: knot(chained.lanes, eom),
+            runs: chained.runs + 1,
+        };
+    }
+    start_group(opening, eom)
+}

@@ -1,2 +1,0 @@
--- The law of `keccak64`: what its contract fixes.
-pub mod Once

@@ -1,5 +1,0 @@
--- The proof that `lake::tags::give_tag` meets its contract.
-use Rattle.lake.proofs.tags.give_tag.Goals as goal
-
-pub returns : goal.returns
-returns c = rw c.requires at c.squeeze.ensures

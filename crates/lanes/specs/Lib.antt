@@ -1,0 +1,2 @@
+-- What a reader of this crate must believe: what a width of a lane is.
+pub mod Width

@@ -1,9 +1,0 @@
--- `past_words`: the place stays in the line.
-use Rattle.std.proofs.Common.{◌≤◌, length}
-use Rattle.line_text.proofs.line_words.past_words.Given as goal
-
-abbrev pub invariant-loop-left : goal.invariant-loop-left
-invariant-loop-left l = l.from ≤ length l.line
-
-abbrev pub decreases-loop-left : goal.decreases-loop-left
-decreases-loop-left l = l.left

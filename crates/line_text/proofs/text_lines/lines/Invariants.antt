@@ -1,9 +1,0 @@
--- `lines`: no more than the places passed.
-use Rattle.std.proofs.Common.{◌≤◌, ◌-◌, length}
-use Rattle.line_text.proofs.text_lines.lines.Given as goal
-
-abbrev pub invariant-loop-i : goal.invariant-loop-i
-invariant-loop-i l = (l.found ≤ l.i) × (l.i ≤ length l.text)
-
-abbrev pub decreases-loop-i : goal.decreases-loop-i
-decreases-loop-i l = length l.text - l.i

@@ -1,2 +1,0 @@
--- What the crate's inner contracts cite.
-pub mod Bounds

@@ -1,0 +1,2 @@
+-- The laws of `permutation`.
+pub mod Once

@@ -1,2 +1,0 @@
--- The laws of `piston32`, for its proofs and for the crates above.
-pub mod Numbers

@@ -1,2 +1,0 @@
--- The laws of `piston64`, for its proofs and for the crates above.
-pub mod Numbers

@@ -1,0 +1,2 @@
+-- The laws of `rates`, for its proofs.
+pub mod Lanes

@@ -1,5 +1,0 @@
--- The proof that `river::tags::tag_is` meets its contract.
-use Rattle.river.proofs.tags.tag_is.Goals as goal
-
-pub returns : goal.returns
-returns c = rw (← c.squeeze.ensures) c.same.ensures

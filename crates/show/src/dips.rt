@@ -1,0 +1,49 @@
+// The parts of a dip: the well's name, the month, the place of a reading.
+ghost use Rattle.std.specs.Prelude.{◌+◌, ◌%◌, ◌^◌, ◌++◌, Some, codes, decimal};
+
+use std::{fmt, str};
+
+// A well's name, as long as it is.
+#[derive(Clone, Copy, Debug, PartialEq, Eq)]
+pub struct Name(pub [u8; 12]);
+
+impl fmt::Display for Name {
+    // A header that stands has a name of 0x21 to 0x7e, which is text.
+    fn fmt<W: fmt::Write>(&self, f: &mut fmt::Formatter<W>) -> fmt::Result {
+        let end = self.0.iter().position(|b| *b == 0).unwrap_or(12);
+        f.pad(str::from_utf8(&self.0[..end]).map_err(|_| fmt::Error)?)
+    }
+}
+
+// Year and month, as 2025-01.
+#[derive(Clone, Copy, Debug, PartialEq, Eq)]
+pub struct Date {
+    pub year: u16,
+    pub month: u8,
+}
+
+impl fmt::Display for Date {
+    fn fmt<W: fmt::Write>(&self, f: &mut fmt::Formatter<W>) -> fmt::Result {
+        write!(f, "{}-{:02}", self.year, self.month)
+    }
+}
+
+// A reading by its index among so many: an index counts from 0, a person from 1.
+#[derive(Clone, Copy, Debug, PartialEq, Eq)]
+pub struct Reading {
+    pub index: usize,
+    pub count: usize,
+}
+
+impl fmt::Display for Reading {
+    ghost output = { λ r. Some (codes "reading " ++ (decimal ((r.index + 1) % 2 ^ 64) ++ (codes " of " ++ decimal r.count))) };
+
+    fn fmt<W: fmt::Write>(&self, f: &mut fmt::Formatter<W>) -> fmt::Result {
+        write!(
+            f,
+            "reading {} of {}",
+            self.index.wrapping_add(1),
+            self.count
+        )
+    }
+}

@@ -1,0 +1,2 @@
+-- What a byte by a pattern is.
+pub mod Byte

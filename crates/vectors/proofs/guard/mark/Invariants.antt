@@ -1,6 +1,0 @@
--- The loop stays within the slice, whose length no store changes.
-use Rattle.std.proofs.Common.{◌-◌, length}
-use Rattle.vectors.proofs.guard.mark.Given as goal
-
-abbrev pub decreases-loop-i : goal.decreases-loop-i
-decreases-loop-i l = length l.initial.array - l.i

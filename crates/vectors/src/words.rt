@@ -1,0 +1,162 @@
+// The words of a line of the vector layout (docs/VECTORS.md): words with a space between two, numbers, and bytes in five words.
+// What is no such word is read all the same, so that a call can be made with it, and is remembered: the line then differs.
+ghost use Rattle.std.specs.Prelude.{◌≡◌, ◌≤◌, ◌&&◌, length, is_none};
+
+use crate::bytes::{Bytes, are_digits};
+use decimal::LARGEST;
+use table::Answer;
+use trials::pattern::Pattern;
+
+// The words that are still to be read, none past the last, and whether all before were sound and as expected.
+#[derive(Clone, Copy)]
+pub struct Words<'a> {
+    rest: Option<&'a [u8]>,
+    same: bool,
+}
+
+impl<'a> Words<'a> {
+    // Those past the first word of a line.
+    pub fn past_first(line: &'a [u8]) -> Self {
+        let mut words = Words {
+            rest: Some(line),
+            same: true,
+        };
+        words.word();
+        words
+    }
+
+    // The next word; past the last it is empty.
+    fn word(&mut self) -> &'a [u8] {
+        let Some(rest) = self.rest else {
+            return &[];
+        };
+        let mut parts = rest.splitn(2, |c| *c == b' ');
+        let word = parts.next().unwrap_or(&[]);
+        self.rest = parts.next();
+        word
+    }
+
+    // One thing more that has to hold.
+    pub fn expect(&mut self, holds: bool)
+        ensures { self.new ≡ record { rest = self.old.rest; same = self.old.same && holds } }
+    {
+        self.same = self.same && holds;
+    }
+
+    // Whether all was well, and the line ends with the words that were read.
+    pub fn ends(&self) -> bool
+        ensures { result ≡ (self.now.same && is_none self.now.rest) }
+    {
+        self.same && self.rest.is_none()
+    }
+
+    // A number of at most `most`; what is more, or no number, is not sound.
+    pub fn number(&mut self, most: usize) -> usize
+        ensures { result ≤ most }
+    {
+        let word = self.word();
+        self.expect(decimal::read(word, most).is_ok());
+        decimal::nearest(word, most)
+    }
+
+    // A number that is a choice: 0 or 1.
+    pub fn choice(&mut self) -> bool {
+        self.number(1) == 1
+    }
+
+    // The words A B: byte i is A * i + B + 29 * (i / 256), modulo 256; where A is 0, every byte is B.
+    fn pattern(&mut self) -> Pattern {
+        let [step, first] = [self.number(255), self.number(255)].map(|n| n.to_le_bytes()[0]);
+        Pattern {
+            first,
+            step,
+            period: 256,
+            lift: 29,
+        }
+    }
+
+    // The word HEX, of at most `most` bytes. Sound are a '-', or pairs of digits alone, one or more.
+    fn pairs(&mut self, most: usize) -> &'a [[u8; 2]] {
+        let hex = self.word();
+        if hex == b"-".as_slice() {
+            return &[];
+        }
+        let (all, odd) = hex.as_chunks::<2>();
+        let pairs = &all[..all.len().min(most)];
+        self.expect(odd.is_empty() && !pairs.is_empty() && pairs.len() == all.len());
+        self.expect(pairs.iter().all(are_digits));
+        pairs
+    }
+
+    // The words LENGTH A B PLACE HEX, of at most `most` bytes.
+    fn bytes(&mut self, most: usize) -> Bytes<'a>
+        ensures { result.length ≤ most }
+    {
+        let length = self.number(most);
+        let pattern = self.pattern();
+        let place = self.number(length);
+        let pairs = self.pairs(length - place);
+        Bytes {
+            length,
+            pattern,
+            place,
+            pairs,
+        }
+    }
+
+    // The bytes of five words, which go to the front of `room`.
+    pub fn given<'b>(&mut self, room: &'b mut [u8]) -> &'b mut [u8]
+        ensures { length result.now ≤ length room.old }
+    {
+        let told = self.bytes(room.len());
+        let into = &mut room[..told.length];
+        for (i, byte) in into.iter_mut().enumerate() {
+            *byte = told.at(i);
+        }
+        into
+    }
+
+    // A number that must be told.
+    pub fn told(&mut self, got: usize) {
+        let told = self.number(LARGEST);
+        self.expect(told == got);
+    }
+
+    // Bytes that must be told, all of them.
+    pub fn equal(&mut self, got: &[u8]) {
+        let told = self.bytes(got.len());
+        self.expect(told.length == got.len());
+        self.expect(got.iter().enumerate().all(|(i, byte)| *byte == told.at(i)));
+    }
+
+    // Whether the next words are so many '-', which expect nothing; then they are passed.
+    fn untold(&mut self, words: usize) -> bool {
+        let mut past = *self;
+        let all = (0..words).all(|_| past.word() == b"-".as_slice());
+        if all {
+            *self = past;
+        }
+        all
+    }
+
+    // A number, or a '-'.
+    pub fn count(&mut self, got: usize) {
+        if !self.untold(1) {
+            self.told(got);
+        }
+    }
+
+    // Bytes, or five '-'.
+    pub fn buffer(&mut self, got: &[u8]) {
+        if !self.untold(5) {
+            self.equal(got);
+        }
+    }
+
+    // The words NUMBER WRITTEN RUNS.
+    pub fn answer(&mut self, got: Answer) {
+        self.count(usize::from(got.number));
+        self.count(got.written);
+        self.count(got.runs);
+    }
+}

@@ -15,7 +15,7 @@ EXPORTS = ["bench/src/lib.rt", "timing/src/lib.rt"]
 WORDS = [("u64", "u32"), ("U64", "U32"), ("width64", "width32"), ("repeat64", "repeat32"), ("wide", "narrow"), ("lake", "river"), ("Lake", "River")]
 NUMBERS = [("64", "32"), ("24", "22"), ("8", "4"), ("6", "5")]
 # What no rule makes: a round's constant is a lane of 64 bits as it stands, and of a narrower lane its lowest bits are taken.
-OTHER = {"lanes/src/wide.rt": [("k: u32", "k: u64"), ("b[0] ^= k;", "b[0] ^= (k % 0x1_0000_0000) as u32;")]}
+OTHER = {"lanes/src/wide.rt": [("k: u32", "k: u64"), ("b[0] ^= k;", "// No `From` narrows: the constant's lowest 32 bits, as the clause has them.\n        b[0] ^= (k % 0x1_0000_0000) as u32;")]}
 
 
 def twin(text):

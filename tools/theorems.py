@@ -25,6 +25,9 @@ GROUPS = r"(?:\s*\{[^{}]*\}|\s*\((?:[^()]|\([^()]*\))*\))*"
 HEAD = re.compile(rf"^(?P<deep> *)(?P<marks>{MARKS})(?P<kind>record |data |postulate )?(?P<name>{NAME}){GROUPS}\s*(?::(?=\s|$)|$)")
 NOT_NAMES = {"use", "mod", "module", "open", "let", "in", "infix", "infixl", "infixr", "prefix", "unfolding", "where", "pub", "record", "data"}
 MADE = ("Answers.antt", "Invariants.antt", "Proof.antt", "Lib.antt")
+# Crates of one width or one instance that became one of any lanes: a name of the old one is held against that of the new one, not against a stranger's.
+GENERIC = {"steps64": "lanes", "steps32": "lanes", "lanes64": "lanes", "lanes32": "lanes", "keccak64": "permutation", "keccak32": "permutation",
+           "piston64": "blocks", "piston32": "blocks", "engine64": "engine", "engine32": "engine", "lake": "keyak", "river": "keyak"}
 
 
 @dataclasses.dataclass(frozen=True)
@@ -64,8 +67,11 @@ def items(file, raw):
         deep = len(line) - len(line.lstrip())
         if line.strip():
             modules = [m for m in modules if m[0] < deep]
-        if re.match(r" *module\b.*where$", line):
-            modules.append((deep, bare(line)))
+        if re.match(r" *module\b", line):
+            last = next((j for j in range(k, len(lines)) if lines[j].endswith("where")), k)
+            modules.append((deep, bare(" ".join(lines[k : last + 1]))))
+            k = last + 1
+            continue
         found = HEAD.match(line)
         if not found or found["name"] in NOT_NAMES or (line.endswith(found["name"]) and not (k + 1 < len(lines) and lines[k + 1].lstrip().startswith(":"))):
             k += 1
@@ -118,6 +124,10 @@ def stands(old, new):
     return new.text == old.text or proved
 
 
+def crate(item):
+    return item.file.split("/")[1]
+
+
 def compare(old, new):
     """For each old item what became of it: a word, and the new ones that it is held against."""
     by = collections.defaultdict(list)
@@ -131,8 +141,8 @@ def compare(old, new):
             yield "moved", i, same[:1]
         elif here:
             yield "changed", i, here
-        elif by[i.name]:
-            yield "moved and changed", i, by[i.name]
+        elif near := [n for n in by[i.name] if crate(n) in (crate(i), GENERIC.get(crate(i)))]:
+            yield "moved and changed", i, near
         else:
             yield "gone", i, [n for n in new if n.text.replace(n.name, "") == i.text.replace(i.name, "") and len(i.text) > 30]
 

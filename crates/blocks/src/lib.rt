@@ -56,12 +56,19 @@ pub fn block<L: Lanes>(
     ensures result_value { bytes L.BYTES (L.lanes result) ≡ stepped (instance L.L) (keccak_bytes L.L 12) decrypt (bytes L.BYTES (L.lanes lanes)) cut.at.0 (take (cut.textend.0 - cut.text.0) (drop cut.text.0 text.now)) cut.from.0 (take (cut.metaend.0 - cut.meta.0) (drop cut.meta.0 meta.now)) eom }
     ensures out_after { out.new ≡ take cut.text.0 out.old ++ (mask (bytes L.BYTES (L.lanes lanes)) cut.at.0 (take (cut.textend.0 - cut.text.0) (drop cut.text.0 text.now)) ++ drop (cut.textend.0 - cut.text.0) (drop cut.text.0 out.old)) }
 {
-    let a = cut.text.0;
-    let z = cut.textend.0;
-    let b = cut.meta.0;
-    let y = cut.metaend.0;
-    let texted = crypt(lanes, cut.at, &text[a..z], &mut out[a..z], decrypt);
-    finish(texted, cut.from, &meta[b..y], cut.offsets(eom))
+    let texted = crypt(
+        lanes,
+        cut.at,
+        &text[cut.text.0..cut.textend.0],
+        &mut out[cut.text.0..cut.textend.0],
+        decrypt,
+    );
+    finish(
+        texted,
+        cut.from,
+        &meta[cut.meta.0..cut.metaend.0],
+        cut.offsets(eom),
+    )
 }
 
 // One block of metadata alone.

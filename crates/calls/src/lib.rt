@@ -24,7 +24,7 @@ pub fn message_refusal(
 ) -> Result<(), Refusal>
     ensures { number_of result ≡ first (message_rules phase at text meta out tag) }
 {
-    let live = phase.is_riding() & ((at == 0) | (at == table::TAG_BYTES));
+    let live = phase.is_riding() && (at == 0 || at == table::TAG_BYTES);
     refuse_if(!live, Refusal::NotStarted)?;
     refuse_if(65535 < text, Refusal::TextTooLong)?;
     refuse_if(65535 < meta, Refusal::MetadataTooLong)?;
@@ -36,10 +36,10 @@ pub fn message_refusal(
 pub fn start_refusal(key: usize, nonce: usize, choice: StartTag, tag: usize) -> Result<(), Refusal>
     ensures { number_of result ≡ first (start_rules key nonce choice tag) }
 {
-    refuse_if(!((16 <= key) & (key <= 32)), Refusal::KeyLength)?;
+    refuse_if(!(16..=32).contains(&key), Refusal::KeyLength)?;
     refuse_if(1024 < nonce, Refusal::NonceLength)?;
     refuse_if(
-        choice.is_asked() & (tag != table::TAG_BYTES),
+        choice.is_asked() && tag != table::TAG_BYTES,
         Refusal::TagLength,
     )
 }

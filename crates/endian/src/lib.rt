@@ -45,7 +45,7 @@ impl Little for u16 {
         out.copy_from_slice(&u16::to_le_bytes(self));
     }
 
-    // No `From` narrows; that the number fits is shown, here and at u32.
+    // No `From` narrows: that the number fits is shown.
     fn load_part(s: &[u8]) -> u16 {
         number(s) as u16
     }
@@ -68,6 +68,7 @@ impl Little for u32 {
         out.copy_from_slice(&u32::to_le_bytes(self));
     }
 
+    // As at u16: shown to fit.
     fn load_part(s: &[u8]) -> u32 {
         number(s) as u32
     }
@@ -115,6 +116,7 @@ fn spread(x: u64, out: &mut [u8])
 {
     let mut rest = x;
     for byte in out.iter_mut() {
+        // No `From` narrows, and `to_le_bytes` has eight bytes, where out may have more.
         *byte = (rest % 256) as u8;
         rest /= 256;
     }

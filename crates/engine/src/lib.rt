@@ -19,8 +19,8 @@ use rates::{ByteCount, Rates};
 // The most bytes that a state has: room for one block of a start.
 const STATE_BYTES: usize = 200;
 
-// The lanes after some blocks, and how many they were.
-#[derive(Clone, Copy, Debug, PartialEq, Eq)]
+// The lanes after some blocks, and how many they were. The lanes are secret: nothing derived prints or compares them.
+#[derive(Clone, Copy)]
 pub struct Ran<L> {
     pub lanes: L,
     pub runs: usize,
@@ -49,7 +49,7 @@ fn group<L: Lanes>(
         meta: ByteCount::of(meta),
     };
     let mut cut = whole.first(at);
-    // A `for` has nothing to go over here: whether a block is left shows when the one before it is cut.
+    // No `for`: how many blocks there are is known only when the last is cut, and an iterator of cuts would be a type and an impl for this one loop.
     let mut going = true;
     while going {
         let more = whole.more(cut);
@@ -71,7 +71,7 @@ fn knot<L: Lanes>(lanes: L, eom: u8) -> L
     blocks::inject(lanes, &value, eom)
 }
 
-// A whole message.
+// A whole message. Where its text starts is bounded by the lanes' own rate: a type for such a place would be generic over lanes that it does not hold.
 pub fn message<L: Lanes>(
     lanes: L,
     at: ByteCount,
@@ -87,7 +87,7 @@ pub fn message<L: Lanes>(
 {
     let rates = Rates::of::<L>();
     let eom = plan::eom_tag(rates);
-    // Forgetting is a choice of the caller from outside, and a knot more is what it means: a closure would be no plainer, here and in `start`.
+    // Forgetting is a choice of the caller from outside, and a knot more is what it means: a closure would be no plainer.
     if forget {
         let chained = group(lanes, at, text, meta, rates.chain.as_byte(), out, decrypt);
         return Ran {
@@ -140,7 +140,7 @@ fn start_group<L: Lanes>(opening: Opening<'_>, eom: u8) -> Ran<L>
     let mut state = L::zero();
     let mut done = ByteCount(0);
     let mut runs = 0;
-    // A `for` over steps of `full` would have to count the whole blocks first: the last part, full or not, is not the loop's.
+    // No `for` over steps of `full`: it would have to count the whole blocks first, since the last one, full or not, ends the group and is not the loop's.
     while full < total - done {
         state = start_block(state, opening, done, full, 0);
         done = done + full;
@@ -165,6 +165,7 @@ pub fn start<L: Lanes>(key: &[u8], nonce: &[u8], forget: bool, tagged: bool) -> 
         nonce,
     };
     let eom = plan::eom_of(rates, tagged);
+    // As in `message`: a knot more is what forgetting means, and a closure would be no plainer.
     if forget {
         let chained = start_group(opening, rates.chain.as_byte());
         return Ran {

@@ -58,7 +58,7 @@ pub fn done<L: Lanes>(ran: Ran<L>, tagged: bool, written: usize) -> Turn<L>
 pub fn judged<L: Lanes>(right: bool, ran: Ran<L>, written: usize) -> Turn<L>
     ensures { (out g : Bytes) → outcome result out g ≡ judged (kind L.L L.BYTES L.lanes L.of_lanes) right ran.lanes written ran.runs out g }
 {
-    // The one answer that a secret may tell (docs/SECURITY.md): a flag, so that it is seen to be.
+    // Whether a tag is right is the one thing that a secret may tell (docs/SECURITY.md): a flag here, so that this is seen; a closure would hide it.
     if right {
         return done(ran, true, written);
     }

@@ -16,8 +16,8 @@ ghost use Rattle.keyak.specs.Keyak.{kind, unstarted, outcome, message, wrap_of, 
 use lanes::Lanes;
 use table::{Done, Phase, Refusal, StartTag};
 
-// The record of a session: 25 lanes, how far it has come, and where its next text starts.
-#[derive(Clone, Copy, Debug, PartialEq, Eq)]
+// The record of a session: 25 lanes, how far it has come, and where its next text starts. Nothing derived prints or compares it: the lanes are secret.
+#[derive(Clone, Copy)]
 pub struct Session<L> {
     pub lanes: L,
     pub phase: Phase,
@@ -25,18 +25,17 @@ pub struct Session<L> {
 }
 
 // What a call gives back: the answer, and the session for the next call.
-#[derive(Clone, Copy, Debug, PartialEq, Eq)]
+#[derive(Clone, Copy)]
 pub struct Turn<L> {
     pub answer: Result<Done, Refusal>,
     pub session: Session<L>,
 }
 
-// The two types that have a name: all else here is of either.
+// The two types that have a name, which README and docs/ call by it: all else here is of either.
 pub type Lake = Session<[u64; 25]>;
 
 pub type River = Session<[u32; 25]>;
 
-// Key, nonce and choice, and text, metadata and output are parameters one by one, as README's calls have them: a struct for them would be one more thing to fill in.
 impl<L: Lanes> Session<L> {
     // The record before any start; the other two ways to make one are in `endings`.
     pub fn unstarted() -> Session<L>
@@ -52,6 +51,7 @@ impl<L: Lanes> Session<L> {
     }
 
     // Starts a session from a key and a nonce; the start tag is not asked for, goes into `tag`, or must be the one in `tag`.
+    // Key, nonce, forgetting and choice one by one, as README's calls and the clause (`start_of`) have them: a struct would be one more thing to fill in.
     pub fn start(
         key: &[u8],
         nonce: &[u8],
@@ -68,6 +68,7 @@ impl<L: Lanes> Session<L> {
     }
 
     // Seals `text` with `meta`: the ciphertext goes to the front of `out`, the tag into `tag`.
+    // Text, metadata, forgetting and output one by one, as README's calls and the clause (`wrap_of`) have them: a struct would be one more thing to fill in.
     pub fn wrap(
         self,
         text: &[u8],

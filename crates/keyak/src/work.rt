@@ -53,7 +53,7 @@ pub fn begin<L: Lanes>(
     ensures { outcome result [] tag.new ≡ started (kind L.L L.BYTES L.lanes L.of_lanes) key.now nonce.now forget choice tag.old }
 {
     let ran = rides::of_start(key, nonce, forget, choice);
-    // The start tag's use is given from outside; each of its three is a line or two.
+    // The start tag's use is given from outside: a closure for each of the three would stand at the caller in the place of this line or two.
     match choice {
         StartTag::None => endings::done(ran, false, 0),
         StartTag::Produced => {

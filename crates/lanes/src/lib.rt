@@ -47,9 +47,8 @@ pub trait Lanes: Copy {
     fn iota(self, k: u64) -> Self
         ensures { lanes result ≡ iota_l (k % 2 ^ 2 ^ L) (lanes self) };
 
-    // One lane's bytes, at both impls alike: an array of a type parameter can stand in no struct of a session, so the array is the type that has the trait, and
-    // each method is a line at each width. They are four, not two, since a whole lane is one load, without a test of the length.
-    // The bytes s, a whole lane's, xored into lane q; and fewer bytes.
+    // The bytes s, a whole lane's, xored into lane q; and fewer bytes. Two methods, here and below, since a whole lane is one load, without a test of the length.
+    // q and s apart: a type for the place of a lane, with q < 25 in it, would be built at each call to be taken apart at once.
     fn xor_lane(&mut self, q: usize, s: &[u8])
         requires { (q < 25) × (length s.now ≡ BYTES) }
         ensures { lanes self.new ≡ set (lanes self.old) q (bit_xor (get_or (lanes self.old) q 0) (from_bytes s.now)) };

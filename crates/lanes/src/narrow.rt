@@ -37,10 +37,12 @@ impl Lanes for [u32; 25] {
 
     fn iota(self, k: u64) -> Self {
         let mut b = self;
+        // No `From` narrows: the constant's lowest 32 bits, as the clause has them.
         b[0] ^= (k % 0x1_0000_0000) as u32;
         b
     }
 
+    // These four as at the other width, a line each: std has no trait of integers that are loaded, stored and xored, and one of our own would have a method for each line.
     fn xor_lane(&mut self, q: usize, s: &[u8]) {
         self[q] ^= u32::load(s);
     }

@@ -41,6 +41,7 @@ impl Lanes for [u64; 25] {
         b
     }
 
+    // These four as at the other width, a line each: std has no trait of integers that are loaded, stored and xored, and one of our own would have a method for each line.
     fn xor_lane(&mut self, q: usize, s: &[u8]) {
         self[q] ^= u64::load(s);
     }

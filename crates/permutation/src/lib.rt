@@ -9,8 +9,9 @@ ghost use Rattle.keccak.specs.Permutes.{Permutes};
 use keccak::round_constants;
 use lanes::Lanes;
 
-// What the call answers: the rounds done, and the lanes. 01 has 0 rounds answered for a count that is not done, and the clause of `permute` (`Permutes`) says so.
-#[derive(Clone, Copy, Debug, PartialEq, Eq)]
+// What the call answers: the rounds done, and the lanes, which may be secret. 0 rounds are answered for a count that is not done, and no `None`, since the clause of
+// `permute` (`Permutes`) says so.
+#[derive(Clone, Copy)]
 pub struct Permuted<L> {
     pub rounds: usize,
     pub lanes: L,
@@ -28,7 +29,7 @@ pub fn permute<L: Lanes>(lanes: L, rounds: usize) -> Permuted<L>
     Permuted { rounds, lanes }
 }
 
-// Twelve rounds, which every instance of Keyak takes, as what they do to the bytes of the state: another clause than that of `permute`, for the crates above.
+// Twelve rounds, which every instance of Keyak takes, as what they do to the bytes of the state: another clause than that of `permute`, and no count to refuse.
 pub fn permute12<L: Lanes>(lanes: L) -> L
     ensures { bytes L.BYTES (L.lanes result) ≡ keccak_bytes L.L 12 (bytes L.BYTES (L.lanes lanes)) }
 {

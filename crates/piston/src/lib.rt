@@ -18,7 +18,8 @@ pub fn xor_in<L: Lanes>(lanes: &mut L, p: ByteCount, s: &[u8])
     ensures { bytes L.BYTES (L.lanes lanes.new) ≡ xors (bytes L.BYTES (L.lanes lanes.old)) (placed p.0 s.now) }
 {
     lanes.known();
-    // By the number of a lane, which the call takes: `chunks` with `enumerate` was tried, and its proof would be longer, here and in `stream`.
+    // By the number of a lane, which the call takes. Tried: `s.chunks_exact(w).enumerate()`. What a turn of it takes stayed open: std has no law that says it of a
+    // loop's turns, as `YieldsList-from_slice` does of a slice.
     let w = L::BYTES;
     let q = p.0 / w;
     let n = s.len() / w;
@@ -38,6 +39,7 @@ pub fn stream<L: Lanes>(lanes: L, p: ByteCount, s: &[u8], out: &mut [u8])
     ensures { out.new ≡ mask (bytes L.BYTES (L.lanes lanes)) p.0 s.now }
 {
     lanes.known();
+    // As in `xor_in`, and out is cut likewise.
     let w = L::BYTES;
     let q = p.0 / w;
     let n = s.len() / w;

@@ -66,7 +66,7 @@ impl Group {
     pub fn more(self, cut: Cut) -> bool
         ensures { result ≡ (ltb cut.textend.0 self.text.0 || ltb cut.metaend.0 self.meta.0) }
     {
-        (cut.textend < self.text) | (cut.metaend < self.meta)
+        cut.textend < self.text || cut.metaend < self.meta
     }
 }
 

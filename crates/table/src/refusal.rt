@@ -7,22 +7,22 @@ use std::fmt;
 
 #[derive(Clone, Copy, Debug, PartialEq, Eq)]
 pub enum Refusal {
-    NotStarted,
-    KeyLength,
-    NonceLength,
-    TextTooLong,
-    MetadataTooLong,
-    OutputShort,
-    TagLength,
-    TagDiffers,
-    HeaderLength,
-    Name,
-    BoreholeZero,
-    YearOrMonth,
-    CountOver31,
-    Datum,
-    ReadingsLength,
-    ReadingRange,
+    NotStarted = 1,
+    KeyLength = 2,
+    NonceLength = 3,
+    TextTooLong = 4,
+    MetadataTooLong = 5,
+    OutputShort = 6,
+    TagLength = 7,
+    TagDiffers = 8,
+    HeaderLength = 9,
+    Name = 10,
+    BoreholeZero = 11,
+    YearOrMonth = 12,
+    CountOver31 = 13,
+    Datum = 14,
+    ReadingsLength = 15,
+    ReadingRange = 16,
 }
 
 impl Refusal {
@@ -30,24 +30,7 @@ impl Refusal {
     pub fn number(self) -> u8
         ensures { result ≡ number self }
     {
-        match self {
-            Refusal::NotStarted => 1,
-            Refusal::KeyLength => 2,
-            Refusal::NonceLength => 3,
-            Refusal::TextTooLong => 4,
-            Refusal::MetadataTooLong => 5,
-            Refusal::OutputShort => 6,
-            Refusal::TagLength => 7,
-            Refusal::TagDiffers => 8,
-            Refusal::HeaderLength => 9,
-            Refusal::Name => 10,
-            Refusal::BoreholeZero => 11,
-            Refusal::YearOrMonth => 12,
-            Refusal::CountOver31 => 13,
-            Refusal::Datum => 14,
-            Refusal::ReadingsLength => 15,
-            Refusal::ReadingRange => 16,
-        }
+        self as u8
     }
 }
 

@@ -1,31 +1,10 @@
 -- The proof that `blocks::block` meets its contract.
-use Prim.Native.Nat.{◌*◌}
 use mathlib.Core.Path.{refl}
 use lib.ListN.{length}
 use Rattle.keccak.specs.State.{bytes, keccak_bytes}
 use Rattle.lanes.specs.Width.{instance}
-use Rattle.plan.proofs.Step.{crypt_room, inject_room, bytewise, step}
-use Rattle.blocks.proofs.Numbers.{room}
+use Rattle.plan.proofs.Step.{step}
 use Rattle.blocks.proofs.block.Goals as goal
-
-pub crypt-texted-requires : goal.crypt-texted-requires
-crypt-texted-requires g c =
-    let a = c.args in
-    let w = g.met.L.Lanes.width in
-    crypt_room a.text.now a.meta.now a.out.now c.requires w.sound (g.L.Lanes.BYTES * 25) (room w)
-
-pub offsets-requires : goal.offsets-requires
-offsets-requires g c =
-    let a = c.args in
-    let w = g.met.L.Lanes.width in
-    bytewise a.text.now a.meta.now a.out.now c.requires w.sound (g.L.Lanes.BYTES * 25) (room w)
-
-pub finish-requires : goal.finish-requires
-finish-requires g c =
-    let a = c.args in
-    let w = g.met.L.Lanes.width in
-    let q = inject_room a.text.now a.meta.now a.out.now c.requires w.sound (g.L.Lanes.BYTES * 25) (room w) in
-    (q.0, q.1)
 
 pub returns : goal.returns
 returns g c =

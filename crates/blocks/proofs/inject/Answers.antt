@@ -1,19 +1,8 @@
 -- The proof that `blocks::inject` meets its contract.
 use Prim.Native.Nat.{◌*◌, ◌^◌}
-use native.Mathlib.Omega.{arith}
 use Rattle.keccak.specs.State.{bytes, keccak_bytes}
 use Rattle.plan.proofs.Knots.{inject-step}
-use Rattle.blocks.proofs.Numbers.{room, zero_lane}
 use Rattle.blocks.proofs.inject.Goals as goal
-
-pub as_byte-end-requires : goal.as_byte-end-requires
-as_byte-end-requires g c = omega (arith, g.met.L.Lanes.width.sound.offsets_small, c.of.ensures, c.requires)
-
-pub finish-requires : goal.finish-requires
-finish-requires g c =
-    let p = c.requires in
-    let w = g.met.L.Lanes.width in
-    (zero_lane w, omega (arith, room w, p))
 
 pub returns : goal.returns
 returns g c =

@@ -1,13 +1,9 @@
 -- The proof that `engine::message` meets its contract.
 use Rattle.keccak.specs.State.{bytes, keccak_bytes}
 use Prim.Native.Nat.{◌*◌, ◌^◌}
-use native.Mathlib.Omega.{arith}
 use Rattle.motorist.proofs.Rides.{rode_as}
 use Rattle.plan.proofs.Knots.{message_plain, message_knot}
 use Rattle.engine.proofs.message.Goals as goal
-
-pub as_byte-requires : goal.as_byte-requires
-as_byte-requires g c = omega (arith, c.of-rates.ensures.chain, g.met.L.Lanes.width.sound.chain_fits, g.met.L.Lanes.width.sound.text_fits, g.met.L.Lanes.width.sound.offsets_small)
 
 pub returns-then-forget : goal.returns-then-forget
 returns-then-forget g c =

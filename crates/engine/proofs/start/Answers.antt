@@ -2,14 +2,10 @@
 use Rattle.keccak.specs.State.{bytes, keccak_bytes}
 use Prim.Native.Nat.{◌*◌, ◌^◌}
 use mathlib.Core.Path.{ap, ◌∙◌}
-use native.Mathlib.Omega.{arith}
 use lib.ListN.{length}
 use Rattle.motorist.specs.Engine.{Ride}
 use Rattle.plan.proofs.Knots.{start_plain, start_knot}
 use Rattle.engine.proofs.start.Goals as goal
-
-pub as_byte-requires : goal.as_byte-requires
-as_byte-requires g c = omega (arith, c.of-rates.ensures.chain, g.met.L.Lanes.width.sound.chain_fits, g.met.L.Lanes.width.sound.text_fits, g.met.L.Lanes.width.sound.offsets_small)
 
 pub returns-then-forget : goal.returns-then-forget
 returns-then-forget g c =

@@ -2,17 +2,10 @@
 use Rattle.keccak.specs.State.{bytes, keccak_bytes}
 use Rattle.std.proofs.Common.{rules}
 use Prim.Native.Nat.{◌*◌, ◌^◌}
-use mathlib.Core.Path.{◌∙◌}
 use Prim.Native.Nat.{◌≤◌, ◌<◌}
 use native.Mathlib.Omega.{arith}
-use Rattle.plan.proofs.Knots.{starting_none, starting_more, starting_last}
-use Rattle.blocks.proofs.Numbers.{zero_state}
+use Rattle.plan.proofs.Knots.{starting_more, starting_last}
 use Rattle.engine.proofs.start_group.Goals as goal
-
-pub loop-full-init : goal.loop-full-init
-loop-full-init g c =
-    let a = c.args.opening in
-    starting_none (25 * 2 ^ g.L.Lanes.L) (2 ^ g.L.Lanes.L) 256 (keccak_bytes g.L.Lanes.L 12) g.met.L.Lanes.width.sound a.key.now a.nonce.now c.args.eom _ (c.zero-state.ensures ∙ zero_state g.met.L.Lanes.width)
 
 pub loop-full-preserved : goal.loop-full-preserved
 loop-full-preserved g c =

@@ -3,12 +3,9 @@ use mathlib.Core.Path.{◌∙◌, refl}
 use Rattle.table.proofs.Answers.{refused_above}
 use Rattle.lanes.specs.Width.{instance}
 use Rattle.keccak.specs.State.{keccak_bytes}
-use Rattle.calls.proofs.Meets.{start_allowed, start_refused, start_done}
+use Rattle.calls.proofs.Meets.{start_refused, start_done}
 use Rattle.keyak.specs.Keyak.{kind, records}
 use Rattle.keyak.proofs.Session.start.Goals as goal
-
-pub begin-requires : goal.begin-requires
-begin-requires g c = start_allowed c.start_refusal.ensures (rw c.in-Ok.is refl)
 
 pub returns-in-Ok : goal.returns-in-Ok
 returns-in-Ok g c =

@@ -3,12 +3,9 @@ use mathlib.Core.Path.{◌∙◌, refl}
 use Rattle.table.proofs.Answers.{refused_above}
 use Rattle.lanes.specs.Width.{instance}
 use Rattle.keccak.specs.State.{keccak_bytes}
-use Rattle.calls.proofs.Meets.{message_allowed, unwrap-refused, unwrap_done}
+use Rattle.calls.proofs.Meets.{unwrap-refused, unwrap_done}
 use Rattle.keyak.specs.Keyak.{kind, records}
 use Rattle.keyak.proofs.Session.unwrap.Goals as goal
-
-pub unseal-requires : goal.unseal-requires
-unseal-requires g c = message_allowed c.refusal.ensures (rw c.in-Ok.is refl)
 
 pub returns-in-Ok : goal.returns-in-Ok
 returns-in-Ok g c =

@@ -1,11 +1,8 @@
 -- The proof that `keyak::work::begin` meets its contract.
-use mathlib.Core.Path.{refl, ◌∙◌}
+use mathlib.Core.Path.{◌∙◌}
 use Rattle.calls.proofs.Meets.{begun_untagged, begun_produced, begun-checked}
 use Rattle.keyak.specs.Keyak.{kind, records}
 use Rattle.keyak.proofs.work.begin.Goals as goal
-
-pub give_tag-requires : goal.give_tag-requires
-give_tag-requires g c = c.requires.tag (rw c.in-Produced.is refl)
 
 pub returns-in-None : goal.returns-in-None
 returns-in-None g c =

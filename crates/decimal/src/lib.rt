@@ -13,6 +13,7 @@ pub enum NotANumber {
 // No limit is taken to be higher, so that one digit more never overflows.
 pub const LARGEST: usize = 99999999999999;
 
+// std's to_digit would answer a number of 32 bits, which no `From` takes to a usize.
 fn digit(b: u8) -> Option<usize>
     ensures { IfSome result (λ d. d < 10) }
 {
@@ -23,7 +24,8 @@ fn digit(b: u8) -> Option<usize>
     }
 }
 
-// The number of a word, or `top` where it is larger; a byte that is no digit counts as ten.
+// The number of a word, or `top` where it is larger. A byte that is no digit counts as ten, and is not refused: `nearest` promises a number for every
+// word, and the programs that try vectors make their call with just this one.
 fn capped(word: &[u8], top: usize) -> usize
     requires { top ≤ 100000000000000 }
     ensures { result ≤ top }
@@ -40,7 +42,7 @@ fn capped(word: &[u8], top: usize) -> usize
 pub fn read(word: &[u8], most: usize) -> Result<usize, NotANumber>
     ensures { IfOk result (λ n. n ≤ most) }
 {
-    if word.is_empty() || word.iter().any(|b| digit(*b).is_none()) {
+    if word.is_empty() || !word.iter().all(u8::is_ascii_digit) {
         return Err(NotANumber::NotDigits);
     }
     let top = most.min(LARGEST);
@@ -51,7 +53,8 @@ pub fn read(word: &[u8], most: usize) -> Result<usize, NotANumber>
     Ok(value)
 }
 
-// What a word is taken for by a program that goes on where it is no number: its number, or the limit, with ten for a byte that is no digit.
+// What a word is taken for by a program that goes on where it is no number: its number, or the limit, with ten for a byte that is no digit. No Option:
+// `read` is the test, and vectors/words.rt, which asks it first, is to make the call all the same.
 pub fn nearest(word: &[u8], most: usize) -> usize
     ensures { result ≤ most }
 {

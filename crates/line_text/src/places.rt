@@ -8,7 +8,7 @@ pub fn is_space(b: u8) -> bool
     matches!(b, b' ' | b'\t' | b'\r')
 }
 
-// The place of the first byte that passes, or the end.
+// The place of the first byte that passes, or the end. No Option: each of the three callers splits a text there, and would turn None into its end.
 pub fn first<F: Fn(u8) -> bool>(text: &[u8], passes: F) -> usize
     requires { F.IsAlwaysCallable passes }
     ensures { result ≤ length text.now }

@@ -166,7 +166,7 @@ fn places(rt: &impl Print, all: &mut Tally) -> io::Result<()> {
     println!(rt; "")
 }
 
-// The numbers of the run, the count, the bytes, and what they are refused with.
+// The numbers of the run, the count, the bytes, and the client's number that they are refused with. A tuple: the tables are read by columns.
 type Sizes = (usize, usize, usize, u8);
 
 // Refused for the sizes alone, though every reading is out of range.

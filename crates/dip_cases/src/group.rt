@@ -4,7 +4,8 @@ use std::{fmt, io};
 use table::Refusal;
 use trials::tally::Tally;
 
-// What a call on readings answers in the client's numbers, and what is expected of it: the number, and the index beside it.
+// What a call on readings answers in the client's numbers, and what is expected of it: the number, and the index beside it. No `Refusal`: what
+// the library's `number` makes of one is tried too.
 #[derive(Clone, Copy, Debug, PartialEq, Eq)]
 pub struct Told(pub u8, pub usize);
 

@@ -26,11 +26,12 @@ const BYTES: [u8; 24] = [
 struct Case {
     header: Header,
     bytes: [u8; 24],
+    // A number of the client's, and no `Refusal`: what the library's `number` makes of one is tried too.
     expected: u8,
 }
 
 impl Case {
-    // The usual bytes with others from `at` on.
+    // The usual bytes with others from `at` on, a place that the part does not say; the number is the client's.
     fn of(header: Header, at: usize, part: &[u8], expected: u8) -> Case
         requires { at + length part.now ≤ 24 }
     {
@@ -43,6 +44,7 @@ impl Case {
         }
     }
 
+    // The usual bytes under another name; the number is the client's.
     fn named(name: &[u8; 12], expected: u8) -> Case {
         let header = Header {
             name: *name,

@@ -10,6 +10,12 @@ const PAST: i32 = 2_000_001;
 // What a lent run holds: no case has it.
 const LENT: i32 = 9;
 
+// Whether a call left a room so: what it made at the front, and what was lent behind it.
+fn is_left<T: Copy + PartialEq>(room: &[T], made: &[T], lent: T) -> bool {
+    room.strip_prefix(made)
+        .is_some_and(|rest| rest.iter().all(|x| *x == lent))
+}
+
 #[derive(Drop)]
 struct Case<'a> {
     count: usize,
@@ -22,26 +28,30 @@ impl Case<'_> {
     // Read into a run as long: the readings where it is done, and the numbers past the count stay; what was lent where it is refused.
     fn read(&self) -> (Told, bool) {
         let mut room = [LENT; 40];
-        let n = self.run.len().min(40);
-        let told = Told::from(dip::read_readings(self.count, self.bytes, &mut room[..n]));
+        let lent = &mut room[..self.run.len().min(40)];
+        let told = Told::from(dip::read_readings(self.count, self.bytes, lent));
         let read = if self.expected == Told(0, 0) {
-            self.count.min(n)
+            self.run.get(..self.count)
         } else {
-            0
+            None
         };
-        let left = room[..read] == self.run[..read] && room[read..].iter().all(|z| *z == LENT);
-        (told, told == self.expected && left)
+        (
+            told,
+            told == self.expected && is_left(&room, read.unwrap_or(&[]), LENT),
+        )
     }
 
     // Written into as many AA.
     fn write(&self) -> (Told, bool) {
         let mut room = [0xaa; 160];
-        let n = self.bytes.len().min(160);
-        let told = Told::from(dip::write_readings(self.count, self.run, &mut room[..n]));
-        let written = if self.expected == Told(0, 0) { n } else { 0 };
-        let left = room[..written] == self.bytes[..written]
-            && room[written..].iter().all(|b| *b == 0xaa);
-        (told, told == self.expected && left)
+        let lent = &mut room[..self.bytes.len().min(160)];
+        let told = Told::from(dip::write_readings(self.count, self.run, lent));
+        let written = if self.expected == Told(0, 0) {
+            self.bytes
+        } else {
+            &[]
+        };
+        (told, told == self.expected && is_left(&room, written, 0xaa))
     }
 
     fn tell(&self, rt: &impl Print, all: &mut Tally) -> io::Result<()> {
@@ -97,21 +107,25 @@ impl Kind {
     }
 }
 
-// Readings by their kinds: three and a number past the count, or fewer in a run that has no more.
-fn kinds(rt: &impl Print, all: &mut Tally, kinds: &[Kind], expected: Told) -> io::Result<()> {
-    let mut run = [PAST; 4];
-    let mut bytes = [0; 12];
-    for (i, kind) in kinds.iter().enumerate().take(3) {
-        let (z, four) = kind.reading();
-        run[i] = z;
-        bytes[4 * i..4 * i + 4].copy_from_slice(&four);
-    }
-    let count = kinds.len().min(3);
-    let long = if count < 3 { count } else { 4 };
+// Three readings by their kinds, and a number past the count.
+fn three(rt: &impl Print, all: &mut Tally, kinds: [Kind; 3], expected: Told) -> io::Result<()> {
+    let [(x, a), (y, b), (z, c)] = kinds.map(Kind::reading);
     Case {
-        count,
-        run: &run[..long],
-        bytes: &bytes[..4 * count],
+        count: 3,
+        run: &[x, y, z, PAST],
+        bytes: [a, b, c].as_flattened(),
+        expected,
+    }
+    .tell(rt, all)
+}
+
+// A month's only reading, in a run that has no more.
+fn one(rt: &impl Print, all: &mut Tally, kind: Kind, expected: Told) -> io::Result<()> {
+    let (z, bytes) = kind.reading();
+    Case {
+        count: 1,
+        run: &[z],
+        bytes: &bytes,
         expected,
     }
     .tell(rt, all)
@@ -137,22 +151,22 @@ fn places(rt: &impl Print, all: &mut Tally) -> io::Result<()> {
     use Kind::{Above, Below, Fine, Missing};
 
     print!(rt; "which reading is bad:")?;
-    kinds(rt, all, &[Above, Fine, Fine], Told(16, 0))?;
-    kinds(rt, all, &[Fine, Fine, Below], Told(16, 2))?;
-    kinds(rt, all, &[Fine, Above, Below], Told(16, 1))?;
-    kinds(rt, all, &[Below, Fine, Above], Told(16, 0))?;
-    kinds(rt, all, &[Above, Above, Above], Told(16, 0))?;
-    kinds(rt, all, &[Missing, Above, Fine], Told(16, 1))?;
-    kinds(rt, all, &[Below, Missing, Above], Told(16, 0))?;
-    kinds(rt, all, &[Missing, Missing, Below], Told(16, 2))?;
-    kinds(rt, all, &[Fine, Missing, Fine], Told(0, 0))?;
-    kinds(rt, all, &[Above], Told(16, 0))?;
-    kinds(rt, all, &[Below], Told(16, 0))?;
+    three(rt, all, [Above, Fine, Fine], Told(16, 0))?;
+    three(rt, all, [Fine, Fine, Below], Told(16, 2))?;
+    three(rt, all, [Fine, Above, Below], Told(16, 1))?;
+    three(rt, all, [Below, Fine, Above], Told(16, 0))?;
+    three(rt, all, [Above, Above, Above], Told(16, 0))?;
+    three(rt, all, [Missing, Above, Fine], Told(16, 1))?;
+    three(rt, all, [Below, Missing, Above], Told(16, 0))?;
+    three(rt, all, [Missing, Missing, Below], Told(16, 2))?;
+    three(rt, all, [Fine, Missing, Fine], Told(0, 0))?;
+    one(rt, all, Above, Told(16, 0))?;
+    one(rt, all, Below, Told(16, 0))?;
     last_of_31(rt, all)?;
     println!(rt; "")
 }
 
-// The numbers of the run, the count, the bytes, and what they are refused with.
+// The numbers of the run, the count, the bytes, and the client's number that they are refused with. A tuple: the tables are read by columns.
 type Sizes = (usize, usize, usize, u8);
 
 // Refused for the sizes alone, though every reading is out of range.

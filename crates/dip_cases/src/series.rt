@@ -15,12 +15,12 @@ const RENAMED: Header = Header {
     datum: 0,
 };
 
-// The usual header over another number.
+// The usual header over another number: no `From`, since most of it is not of the number.
 fn numbered(borehole: u32) -> Header {
     Header { borehole, ..USUAL }
 }
 
-// A header that no reading gives: its name and date are refused.
+// A header that no reading gives, over a number: its name and date are refused. No `From`, as above.
 fn unread(borehole: u32) -> Header {
     Header {
         borehole,

@@ -6,9 +6,10 @@ mod around;
 mod calls;
 mod run;
 
+use line_text::Lines;
 use std::rt::Files;
 use std::{fs, io};
-use vectors::file::{Lines, ROOM, load};
+use vectors::file::{ROOM, load};
 use vectors::tallies::Tallies;
 use vectors::words::Words;
 
@@ -41,15 +42,15 @@ fn take(tallies: &mut Tallies, line: &[u8]) {
 
 fn compared(file: &[u8]) -> Tallies {
     let mut tallies = Tallies::default();
-    for line in Lines(file) {
-        take(&mut tallies, line);
+    for line in Lines::of(file) {
+        take(&mut tallies, line.text);
     }
     tallies.end();
     tallies
 }
 
 fn main(rt: HostRuntime) -> io::Result<()> {
-    let mut room = vec![in rt.alloc(); 0; ROOM]?;
+    let mut room = [0; ROOM];
     around::tell(&rt)?;
     for (name, what) in [
         ("readings.txt", "readings of the second program"),

@@ -15,6 +15,7 @@ fn is_seen(i: usize) -> bool {
 }
 
 // Of all changes those of the lent part alone are not seen.
+// dip_vectors has its fellow: one function for both would take the text, the places and the closure, and do no more than these two lines.
 pub fn tell(rt: &impl Print) -> io::Result<()> {
     let seen = Tally::of((0..96).map(is_seen)).agreed;
     println!(rt; "changes of a byte around a lent part: {seen} of 80 seen")

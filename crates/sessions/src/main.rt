@@ -46,7 +46,7 @@ fn report_sessions(rt: &(impl Files + Print), room: &mut [u8]) -> io::Result<()>
 }
 
 fn main(rt: HostRuntime) -> io::Result<()> {
-    let mut room = vec![in rt.alloc(); 0; ROOM]?;
+    let mut room = [0; ROOM];
     around::tell(&rt)?;
     for file in [
         ("sample.txt", "vectors of the second program"),

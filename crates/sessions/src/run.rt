@@ -2,13 +2,13 @@
 use crate::steps;
 use decimal::LARGEST;
 use keyak::{Lake, River};
+use line_text::Lines;
 use std::fmt;
 use trials::tally::Tally;
-use vectors::file::Lines;
 use vectors::tallies::Tallies;
 use vectors::words::Words;
 
-// Only here do Lake and River part.
+// Only here do Lake and River part: a step is one generic function, and each match on this calls it at its type.
 #[derive(Clone, Copy)]
 enum Hand {
     Lake(Lake),
@@ -64,8 +64,8 @@ impl Run {
             lake: Calls::default(),
             river: Calls::default(),
         };
-        for line in Lines(file) {
-            run.line(line);
+        for line in Lines::of(file) {
+            run.line(line.text);
         }
         run.tallies.end();
         run
@@ -97,7 +97,7 @@ impl Run {
         self.tallies.other(words.ends());
     }
 
-    // hold ..: the record in hand is replaced.
+    // hold ..: the record in hand is replaced. A match, since no closure is generic over the lanes, as a step is; so is it in `call`.
     fn hold(&mut self, mut words: Words<'_>) {
         self.hand = match self.hand {
             Hand::Lake(session) => Hand::Lake(steps::hold(&mut words, session)),
@@ -106,7 +106,7 @@ impl Run {
         self.tallies.other(words.ends());
     }
 
-    // A call, which is made and compared.
+    // A call, which is made and compared. A match, as in `hold`.
     fn call(&mut self, mut words: Words<'_>, call: Call) {
         match self.hand {
             Hand::Lake(session) => {

@@ -12,30 +12,10 @@ use vectors::words::Words;
 // The most bytes of a key, a nonce, a text or metadata that a line may give.
 const LONGEST: usize = 65536;
 
-fn phase_of(n: usize) -> Phase {
-    match n {
-        0 => Phase::Unstarted,
-        1 => Phase::Riding,
-        _ => Phase::Failed,
-    }
-}
+// The phases, and the uses of the start tag, by their numbers in a line: this program's own reading too.
+const PHASES: [Phase; 3] = [Phase::Unstarted, Phase::Riding, Phase::Failed];
 
-// The number of a phase, by this program's own reading too.
-fn number_of(phase: Phase) -> usize {
-    match phase {
-        Phase::Unstarted => 0,
-        Phase::Riding => 1,
-        Phase::Failed => 2,
-    }
-}
-
-fn use_of(n: usize) -> StartTag {
-    match n {
-        0 => StartTag::None,
-        1 => StartTag::Produced,
-        _ => StartTag::Checked,
-    }
-}
+const USES: [StartTag; 3] = [StartTag::None, StartTag::Produced, StartTag::Checked];
 
 // LANES PHASE TEXTSTART: no call; the record in hand is this one. No lanes leave those in hand.
 pub fn hold<L: Lanes + LaneBytes>(words: &mut Words<'_>, session: Session<L>) -> Session<L> {
@@ -44,7 +24,7 @@ pub fn hold<L: Lanes + LaneBytes>(words: &mut Words<'_>, session: Session<L>) ->
     words.expect(length == 0 || length == 25 * L::WIDTH);
     Session {
         lanes: L::from_bytes(state),
-        phase: phase_of(words.number(2)),
+        phase: PHASES[words.number(2)],
         at: words.number(LARGEST),
     }
 }
@@ -52,7 +32,8 @@ pub fn hold<L: Lanes + LaneBytes>(words: &mut Words<'_>, session: Session<L>) ->
 // RECORD: the lanes, PHASE and TEXTSTART that a call left.
 fn left<L: Lanes + LaneBytes>(words: &mut Words<'_>, session: Session<L>) -> Session<L> {
     words.buffer(&session.lanes.to_bytes()[..25 * L::WIDTH]);
-    words.count(number_of(session.phase));
+    let phase = PHASES.iter().position(|phase| *phase == session.phase);
+    words.count(phase.unwrap_or(PHASES.len()));
     words.count(session.at);
     session
 }
@@ -64,7 +45,7 @@ fn start<L: Lanes + LaneBytes>(words: &mut Words<'_>) -> Session<L> {
     let mut array: TagArray = [0; 96];
     let key = words.given(&mut key);
     let nonce = words.given(&mut nonce);
-    let choice = use_of(words.number(2));
+    let choice = USES[words.number(2)];
     let forget = words.choice();
     let tag = Guarded::read(words, &mut array);
     let turn = Session::start(key, nonce, forget, choice, tag.lent);
@@ -112,6 +93,8 @@ fn permuted<L: Lanes + LaneBytes>(words: &mut Words<'_>, session: Session<L>) ->
     )
 }
 
+// A match on the name of the call, since its tally goes by that name too (`Calls::note`); a closure in place of a name would have to be generic
+// over the lanes, which none is.
 pub fn call<L: Lanes + LaneBytes>(
     words: &mut Words<'_>,
     call: Call,

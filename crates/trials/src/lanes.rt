@@ -65,6 +65,7 @@ impl LaneBytes for [u32; 25] {
     }
 
     fn narrowed(lanes: [u64; 25]) -> Self {
+        // `u32::try_from` refuses what does not fit, and std has no call that drops it.
         lanes.map(|lane| (lane & 0xffff_ffff) as u32)
     }
 

@@ -12,11 +12,11 @@ pub struct Pattern {
     ghost repeats: { 0 < period },
 }
 
-// The lowest byte.
-fn low(n: usize) -> u8
+// The lowest byte. `u8::try_from` refuses what is over 255, and std has no call that drops it.
+pub fn low(n: usize) -> u8
     ensures { result ≡ n % 256 }
 {
-    n.to_le_bytes()[0]
+    (n & 0xff) as u8
 }
 
 impl Pattern {

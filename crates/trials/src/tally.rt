@@ -25,7 +25,7 @@ impl Tally {
         tally
     }
 
-    // One comparison more.
+    // One comparison more. A flag, since that is what a comparison gives: with a method for each, every caller would write this `if`.
     pub fn note(&mut self, same: bool)
         ensures agreed { same ≡ true → self.new ≡ record { agreed = (self.old.agreed + 1) % 2 ^ 64; differed = self.old.differed } }
         ensures differed { same ≡ false → self.new ≡ record { agreed = self.old.agreed; differed = (self.old.differed + 1) % 2 ^ 64 } }

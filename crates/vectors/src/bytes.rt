@@ -28,9 +28,8 @@ pub fn are_digits(pair: &[u8; 2]) -> bool {
 
 // The byte of two digits; what is none counts as 0.
 fn byte(pair: &[u8; 2]) -> u8 {
-    let [high, low] = *pair;
-    let nibbles = [digit(high), digit(low)].map(|nibble| nibble.unwrap_or(0) & 15);
-    nibbles[0] << 4 | nibbles[1]
+    let [high, low] = pair.map(|c| digit(c).unwrap_or(0));
+    high << 4 | low
 }
 
 impl Bytes<'_> {

@@ -1,6 +1,5 @@
-// A file of vectors: as much of it as fits, and its lines.
+// A file of vectors: as much of it as fits.
 ghost use Rattle.std.specs.Prelude.{◌≤◌, length};
-ghost use Rattle.std.specs.Iterator.{at_most};
 
 use std::io;
 use std::io::Read;
@@ -8,18 +7,20 @@ use std::io::Read;
 // Room for a file.
 pub const ROOM: usize = 2_000_000;
 
-// As much of an opened file as comes before it ends, a read fails or there is no more room.
-fn read_full(file: &mut impl Read, into: &mut [u8]) -> usize
-    ensures { result ≤ length into.new }
+// As much of an opened file as comes before it ends, a read fails or there is no more room. A loop over `read`: std's `read_to_end`
+// wants the heap, and says little after a failure, before which a part counts here; the main job's loop (year_job) refuses such a file.
+// `load` and `Words::given` have the same clause: each gives a part of what was lent, and a type for such a part would be a slice again.
+fn read_full<'b>(file: &mut impl Read, room: &'b mut [u8]) -> &'b [u8]
+    ensures { length result.now ≤ length room.old }
 {
     let mut done = 0;
-    while done < into.len() {
-        match file.read(&mut into[done..]) {
+    while done < room.len() {
+        match file.read(&mut room[done..]) {
             Ok(0) | Err(_) => break,
             Ok(n) => done += n,
         }
     }
-    done
+    &room[..done]
 }
 
 // What was read of a file; nothing if it could not be opened.
@@ -27,30 +28,7 @@ pub fn load(opened: io::Result<impl Read + Drop>, room: &mut [u8]) -> &[u8]
     ensures { length result.now ≤ length room.old }
 {
     match opened {
-        Ok(mut file) => {
-            let n = read_full(&mut file, room);
-            &room[..n]
-        }
+        Ok(mut file) => read_full(&mut file, room),
         Err(_) => &[],
-    }
-}
-
-// The lines of a file, without their ends.
-#[derive(Drop)]
-pub struct Lines<'a>(pub &'a [u8]);
-
-impl<'a> Iterator for Lines<'a> {
-    type Item = &'a [u8];
-
-    ghost remaining = { λ s. at_most (length s.0.now) };
-
-    fn next(&mut self) -> Option<&'a [u8]> {
-        let file = self.0;
-        if file.is_empty() {
-            return None;
-        }
-        let end = file.iter().position(|c| *c == b'\n').unwrap_or(file.len());
-        self.0 = file.get(end + 1..).unwrap_or(&[]);
-        Some(&file[..end])
     }
 }

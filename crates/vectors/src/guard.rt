@@ -2,6 +2,7 @@
 ghost use Rattle.std.specs.Prelude.{◌≡◌, ◌≤◌, ◌+◌, length};
 
 use crate::words::Words;
+use trials::pattern::low;
 
 // So many bytes lie before each lent part, and at least as many after it.
 const AROUND: usize = 32;
@@ -21,7 +22,7 @@ pub struct Guarded<'a> {
 
 // The mark at place i: no two neighbours have the same, so that a byte moved is seen as well.
 fn mark_at(i: usize) -> u8 {
-    i.to_le_bytes()[0] ^ 165
+    low(i) ^ 165
 }
 
 // Whether each byte has its mark, where the first is at place `from`.

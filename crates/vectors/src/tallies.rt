@@ -13,16 +13,14 @@ pub struct Tallies {
     line: usize,
     // The line of the first difference.
     first: Option<NonZeroUsize>,
+    // Whether the last line was the line of totals: a plain yes or no, with no value that would go with it.
     ended: bool,
 }
 
 impl Tallies {
     // One line more. What ended before did not end the file.
     pub fn next_line(&mut self)
-        ensures line { self.new.line ≡ (self.old.line + 1) % 2 ^ 64 }
-        ensures ended { self.new.ended ≡ false }
-        ensures calls { self.new.calls ≡ self.old.calls }
-        ensures others { self.new.others ≡ self.old.others }
+        ensures { self.new ≡ record { calls = self.old.calls; others = self.old.others; line = (self.old.line + 1) % 2 ^ 64; first = self.old.first; ended = false } }
     {
         self.line = self.line.wrapping_add(1);
         self.ended = false;
@@ -31,9 +29,7 @@ impl Tallies {
     // Keeps the line, if it is the first that differs.
     fn note(&mut self, same: bool)
         ensures kept { same ≡ true → self.new ≡ self.old }
-        ensures calls { self.new.calls ≡ self.old.calls }
-        ensures others { self.new.others ≡ self.old.others }
-        ensures ended { self.new.ended ≡ self.old.ended }
+        ensures first_alone { self.new ≡ record { calls = self.old.calls; others = self.old.others; line = self.old.line; first = self.new.first; ended = self.old.ended } }
     {
         if !same {
             self.first = self.first.or(NonZeroUsize::new(self.line));
@@ -44,7 +40,7 @@ impl Tallies {
     pub fn call(&mut self, same: bool)
         ensures agreed { same ≡ true → self.new.calls.agreed ≡ (self.old.calls.agreed + 1) % 2 ^ 64 }
         ensures differed { same ≡ false → self.new.calls.differed ≡ (self.old.calls.differed + 1) % 2 ^ 64 }
-        ensures others { self.new.others ≡ self.old.others }
+        ensures calls_alone { self.new ≡ record { calls = self.new.calls; others = self.old.others; line = self.old.line; first = self.new.first; ended = self.old.ended } }
     {
         self.calls.note(same);
         self.note(same);
@@ -54,8 +50,7 @@ impl Tallies {
     pub fn other(&mut self, same: bool)
         ensures kept { same ≡ true → self.new ≡ self.old }
         ensures differed { same ≡ false → self.new.others.differed ≡ (self.old.others.differed + 1) % 2 ^ 64 }
-        ensures calls { self.new.calls ≡ self.old.calls }
-        ensures ended { self.new.ended ≡ self.old.ended }
+        ensures others_alone { self.new ≡ record { calls = self.old.calls; others = self.new.others; line = self.old.line; first = self.new.first; ended = self.old.ended } }
     {
         if !same {
             self.others.note(false);
@@ -66,8 +61,7 @@ impl Tallies {
     // The line of totals, with which the file ends if nothing follows it.
     pub fn totals(&mut self, same: bool)
         ensures differed { same ≡ false → self.new.others.differed ≡ (self.old.others.differed + 1) % 2 ^ 64 }
-        ensures calls { self.new.calls ≡ self.old.calls }
-        ensures ended { self.new.ended ≡ true }
+        ensures ended { self.new ≡ record { calls = self.old.calls; others = self.new.others; line = self.old.line; first = self.new.first; ended = true } }
     {
         self.ended = true;
         self.other(same);

@@ -5,9 +5,10 @@ ghost use Rattle.std.specs.Prelude.{◌≡◌, ◌≤◌, ◌&&◌, length, is_n
 use crate::bytes::{Bytes, are_digits};
 use decimal::LARGEST;
 use table::Answer;
-use trials::pattern::Pattern;
+use trials::pattern::{Pattern, low};
 
-// The words that are still to be read, none past the last, and whether all before were sound and as expected.
+// The words that are still to be read, none past the last, and whether all before were sound and as expected. A flag and no Result:
+// a line is read to its end and its call made, also where a word was not as it should be.
 #[derive(Clone, Copy)]
 pub struct Words<'a> {
     rest: Option<&'a [u8]>,
@@ -66,7 +67,7 @@ impl<'a> Words<'a> {
 
     // The words A B: byte i is A * i + B + 29 * (i / 256), modulo 256; where A is 0, every byte is B.
     fn pattern(&mut self) -> Pattern {
-        let [step, first] = [self.number(255), self.number(255)].map(|n| n.to_le_bytes()[0]);
+        let [step, first] = [self.number(255), self.number(255)].map(low);
         Pattern {
             first,
             step,

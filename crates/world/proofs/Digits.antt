@@ -1,27 +1,25 @@
--- Hexadecimal digits compared byte by byte, from the front.
-use Rattle.std.proofs.Common.{◌≡◌, ℕ, suc, ◌+◌, ◌*◌, ◌/◌, ◌<◌, ◌≤◌, true, ◌&&◌, eqb, List, [], ◌∷◌, ◌++◌, length, get_or, take, sym, refl, ap, ◌∙◌, add-one, arith, take_all, take-suc, eqb-true}
-use lib.Seq.{append_snoc}
+-- Pairs of hexadecimal digits compared byte by byte, from the front.
+use Rattle.std.proofs.Common.{◌≡◌, ℕ, ◌*◌, ◌/◌, true, Bool, eqb, List, [], ◌∷◌, length, refl, ap₂, arith, eqb-true}
+use Rattle.std.specs.List.{zip, list_all}
+use Rattle.std.specs.Simd.{first_chunks}
+use Rattle.std.specs.Cmp.Lexicographic.{pointwise}
 use Rattle.slices.proofs.Bools.{and_both}
 use Rattle.world.specs.Hex.{digit_of, hex_of}
 
-hex_snoc : (s : List ℕ) (b : ℕ) → hex_of (s ++ b ∷ []) ≡ hex_of s ++ digit_of (b / 16) ∷ digit_of b ∷ []
+-- whether a pair is the digits of a byte
+abbrev pub is_pair_of : ℕ × List ℕ → Bool
+is_pair_of p = pointwise eqb p.1 (digit_of (p.0 / 16) ∷ digit_of p.0 ∷ [])
+
+-- all pairs agreed
+pub hex_all : (got hex : List ℕ) → length hex ≡ 2 * length got → list_all is_pair_of (zip got (first_chunks 2 (length got) hex)) ≡ true → hex ≡ hex_of got
 unfolding hex_of
-hex_snoc [] b = refl
-hex_snoc (x ∷ s) b = ap (λ (t : List ℕ). digit_of (x / 16) ∷ digit_of x ∷ t) (hex_snoc s b)
-
--- one byte more agrees
-pub hex_more : (got hex : List ℕ) (i : ℕ) → i < length got → 2 * i + 1 < length hex → take (2 * i) hex ≡ hex_of (take i got)
-    → (eqb (get_or hex (2 * i) 0) (digit_of (get_or got i 0 / 16)) && eqb (get_or hex (2 * i + 1) 0) (digit_of (get_or got i 0))) ≡ true
-    → take (2 * (i + 1)) hex ≡ hex_of (take (i + 1) got)
-hex_more got hex i h k e t =
-    let b = and_both (eqb (get_or hex (2 * i) 0) (digit_of (get_or got i 0 / 16))) (eqb (get_or hex (2 * i + 1) 0) (digit_of (get_or got i 0))) t in
-    let n : 2 * (i + 1) ≡ suc (suc (2 * i)) = omega arith in
-    let m : 2 * i + 1 ≡ suc (2 * i) = add-one (2 * i) in
-    let hi : get_or hex (2 * i) 0 ≡ digit_of (get_or got i 0 / 16) = eqb-true _ _ b.0 in
-    let lo : get_or hex (suc (2 * i)) 0 ≡ digit_of (get_or got i 0) = rw m at (eqb-true (get_or hex (2 * i + 1) 0) (digit_of (get_or got i 0)) b.1) in
-    rw (n, take-suc hex (suc (2 * i)) 0 (omega arith), take-suc hex (2 * i) 0 (omega arith), add-one, take-suc got i 0 h, hex_snoc, e, hi, lo)
-    (append_snoc (hex_of (take i got)) _ _)
-
--- all bytes agreed
-pub hex_all : (got hex : List ℕ) (i : ℕ) → length got ≤ i → length hex ≤ 2 * i → take (2 * i) hex ≡ hex_of (take i got) → hex ≡ hex_of got
-hex_all got hex i h k e = sym (take_all (2 * i) hex k) ∙ e ∙ ap hex_of (take_all i got h)
+hex_all [] [] h t = refl
+hex_all [] (x ∷ hex) h t = absurd (omega (arith, h))
+hex_all (b ∷ got) [] h t = absurd (omega (arith, h))
+hex_all (b ∷ got) (x ∷ []) h t = absurd (omega (arith, h))
+hex_all (b ∷ got) (x ∷ y ∷ hex) h t =
+    let p = and_both _ _ t in
+    let q = and_both (eqb x (digit_of (b / 16))) _ p.0 in
+    let r = and_both (eqb y (digit_of b)) _ q.1 in
+    ap₂ (λ (a : ℕ) (l : List ℕ). a ∷ l) (eqb-true x _ q.0)
+    (ap₂ (λ (a : ℕ) (l : List ℕ). a ∷ l) (eqb-true y _ r.0) (hex_all got hex (omega (arith, h)) p.1))

@@ -52,11 +52,11 @@ fn is_hash(kind: Kind, message: Message, hex: &str) -> bool {
 }
 
 fn all(kind: Kind, published: &[(Message, &str)]) -> Tally {
-    let mut tally = Tally::default();
-    for (message, hex) in published {
-        tally.note(is_hash(kind, *message, hex));
-    }
-    tally
+    Tally::of(
+        published
+            .iter()
+            .map(|(message, hex)| is_hash(kind, *message, hex)),
+    )
 }
 
 // Whether the last 32 of 200 bytes of the hash of no message, which stand in the second block of the output, are `hex`.

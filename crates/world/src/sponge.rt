@@ -39,17 +39,11 @@ fn absorbed(kind: Kind, message: &[u8]) -> State {
     permuted(kind, state)
 }
 
-fn copy_front(state: &State, block: &mut [u8]) {
-    for (to, byte) in block.iter_mut().zip(state) {
-        *to = *byte;
-    }
-}
-
 // As many bytes as `out` has, of the blocks that follow the message.
 pub fn hash(kind: Kind, message: &[u8], out: &mut [u8]) {
     let mut state = absorbed(kind, message);
     for block in out.chunks_mut(kind.rate) {
-        copy_front(&state, block);
+        block.copy_from_slice(&state[..block.len()]);
         state = permuted(kind, state);
     }
 }

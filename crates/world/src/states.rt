@@ -3,6 +3,7 @@ use crate::compare::agrees;
 use crate::published::Published;
 use lanes::Lanes;
 use permutation::permute;
+use std::array;
 use trials::lanes::LaneBytes;
 use trials::tally::Tally;
 
@@ -11,13 +12,9 @@ fn says<L: LaneBytes>(lanes: L, hex: &str) -> bool {
     agrees(&lanes.to_bytes()[..25 * L::WIDTH], hex.as_bytes())
 }
 
-// Lane i holds i.
+// Lane i holds i. A cast, since std has no `From` that takes a `usize`.
 fn start<L: LaneBytes>() -> L {
-    let mut lanes = [0; 25];
-    for (lane, i) in lanes.iter_mut().zip(0..) {
-        *lane = i;
-    }
-    L::narrowed(lanes)
+    L::narrowed(array::from_fn(|i| i as u64))
 }
 
 // Whether the call, asked for `count` rounds, answers `rounds`, and whether the bytes of its lanes are `hex`.

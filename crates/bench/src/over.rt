@@ -28,7 +28,8 @@ pub fn session<L: Lanes>(key: &[u8], nonce: &[u8]) -> Session<L>
     Session::start(key, nonce, false, StartTag::Produced, &mut tag).session
 }
 
-// Answers the permutation runs of the last wrap.
+// Answers the permutation runs of the last wrap. Its parameters are those of C's exports: a struct of them would be made in each export, only to be
+// taken apart here.
 pub fn wraps<L: Lanes>(
     begun: Session<L>,
     times: usize,
@@ -46,7 +47,7 @@ pub fn wraps<L: Lanes>(
     runs
 }
 
-// Answers the permutation runs of the last unwrap: 0 where the tag is wrong.
+// Answers the permutation runs of the last unwrap: 0 where the tag is wrong. Its parameters are those of C's exports, as above.
 pub fn unwraps<L: Lanes>(
     begun: Session<L>,
     times: usize,

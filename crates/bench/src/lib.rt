@@ -32,7 +32,7 @@ pub extern "C" fn repeat32(times: usize, seed: u32) -> u32
 }
 
 // One session of a key and a nonce, and one message wrapped on it `times` times over; answers the permutation runs of the last wrap.
-// A name for each instance, since C has no generics; and a parameter for each buffer, since C has no struct of slices.
+// A name for each instance, since C has no generics; and a parameter for each buffer, since C has no slices that a struct could hold.
 #[unsafe(no_mangle)]
 pub extern "C" fn lake_wrap(
     times: usize,
@@ -67,7 +67,7 @@ pub extern "C" fn river_wrap(
 }
 
 // The same of an unwrap: 0 where the tag is wrong. A name for each instance, since C has no generics; and a parameter for each buffer, since
-// C has no struct of slices.
+// C has no slices that a struct could hold.
 #[unsafe(no_mangle)]
 pub extern "C" fn lake_unwrap(
     times: usize,

@@ -1,4 +1,7 @@
 // What is timed, at either width: the permutation, and one message wrapped or unwrapped on one session, `times` times over.
+// What its loops do is the law of a repeated step.
+#![tactic(auto, using(crate::proofs::Turns::turned_all, crate::proofs::Turns::turned_more))]
+
 ghost use Rattle.std.specs.Prelude.{◌≡◌, ◌+◌, ◌*◌};
 ghost use Rattle.keccak.specs.Permutes.{permuted};
 ghost use Rattle.keyak.specs.Keyak.{kind};

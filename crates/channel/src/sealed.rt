@@ -20,8 +20,13 @@ pub struct Channel<L> {
 impl<L: Lanes> Channel<L> {
     // The first side produces the start tag, the second checks it.
     pub fn start(secrets: Secrets<'_>, choice: StartTag, tag: &mut [u8]) -> Result<Self, Refusal> {
-        let Turn { answer, session } =
-            Session::start(secrets.key, secrets.nonce, false, choice, tag);
+        let Turn { answer, session } = Session::start(
+            secrets.key,
+            secrets.nonce,
+            false,
+            choice,
+            tag,
+        );
         answer.map(|_| Channel { session })
     }
 

@@ -9,8 +9,8 @@ ghost use Rattle.keyak.specs.Lake.{lake_kind};
 ghost use Rattle.keyak.specs.River.{river_kind};
 ghost use Rattle.timing.specs.Once.{once, starting, wrapping, unwrapping};
 
-// A name for each instance, since C has no generics; numbers for the start tag's use and the answer, since C has no enum of ours and no `Result`; and a
-// parameter for each buffer, since C has no struct of slices.
+// A name for each instance, since C has no generics; numbers for the start tag's use and the answer, as C's header declares them; and a parameter for
+// each buffer, since C has no slices that a struct could hold.
 #[unsafe(no_mangle)]
 pub extern "C" fn lake_start_once(
     key: &[u8],
@@ -25,7 +25,7 @@ pub extern "C" fn lake_start_once(
     once::start(key, nonce, forget, choice, tag, lanes)
 }
 
-// A name for each instance, a number for the answer and a parameter for each buffer: C has no generics, no `Result` and no struct of slices.
+// A name for each instance, a number for the answer and a parameter for each buffer: C has no generics, no `Result` and no slices for a struct.
 #[unsafe(no_mangle)]
 pub extern "C" fn lake_wrap_once(
     lanes: &mut [u64; 25],
@@ -41,7 +41,7 @@ pub extern "C" fn lake_wrap_once(
     once::wrap(lanes, at, text, meta, forget, out, tag)
 }
 
-// A name for each instance, a number for the answer and a parameter for each buffer: C has no generics, no `Result` and no struct of slices.
+// A name for each instance, a number for the answer and a parameter for each buffer: C has no generics, no `Result` and no slices for a struct.
 #[unsafe(no_mangle)]
 pub extern "C" fn lake_unwrap_once(
     lanes: &mut [u64; 25],

@@ -39,21 +39,13 @@ impl From<Trouble> for WrongLine {
     }
 }
 
-// What is added where one that was read as a month was perhaps meant as a comment.
-fn hint(begins: &[u8]) -> &'static str {
-    if begins.starts_with(b"#") {
+// What is added where a line that was read as a month, or the month that it is held against, was perhaps meant as a comment.
+fn hint(line: Line<'_>, other: Option<Earlier>) -> &'static str {
+    let beside = other.is_some_and(|month| month.header.name.starts_with(b"#"));
+    if beside || line.text.starts_with(b"#") {
         " (a comment begins with a blank, then #)"
     } else {
         ""
-    }
-}
-
-// The same of a line that is held against another month: either may be the one.
-fn hint_beside(line: Line<'_>, other: Earlier) -> &'static str {
-    if other.header.name.starts_with(b"#") {
-        hint(b"#")
-    } else {
-        hint(line.text)
     }
 }
 
@@ -72,11 +64,13 @@ impl<'a> Told<'a> {
         }
     }
 
+    // Of two months out of order either may be the one that is no month.
     fn hint(self) -> &'static str {
-        match self.why {
-            WrongLine::NotAfter(last) => hint_beside(self.line, last),
-            _ => hint(self.line.text),
-        }
+        let other = match self.why {
+            WrongLine::NotAfter(last) => Some(last),
+            _ => None,
+        };
+        hint(self.line, other)
     }
 }
 
@@ -138,7 +132,7 @@ pub fn renamed(errors: &impl Print, line: Line<'_>, last: Earlier) {
             Well(line.text),
             Name(last.header.name),
             last.line,
-            hint_beside(line, last)
+            hint(line, Some(last))
         ),
     );
 }

@@ -53,7 +53,7 @@ impl<'a, O: Print, E: Print> Report<'a, O, E> {
         }
     }
 
-    // One month more that came out so.
+    // What one month more, or one try more, came to.
     pub fn came(&mut self, out: Verdict) {
         self.verdict = self.verdict.max(out);
     }

@@ -39,6 +39,7 @@ fn open_month<L: Instance>(
         }
         Err(why) => {
             show::tell(report.errors, BadCall::Open(why));
+            // None of its readings came out.
             report.came(Verdict::Altered);
         }
     }

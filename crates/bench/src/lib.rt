@@ -1,5 +1,5 @@
 // The permutation, and the calls of Lake and River, over and over from C, to be timed. Serves bench/run; no public call.
-// C has a name for each width, so the exports here are two of each: each is its generic work at its type.
+// Each export is its generic work at its type.
 #![tactic(auto)]
 
 mod over;
@@ -15,6 +15,7 @@ ghost use Rattle.bench.specs.Over.{begun, wrapping, unwrapping};
 use keyak::{Lake, River};
 
 // KECCAK-f[1600] `times` times over, on 25 lanes that hold `seed` at the start; answers lane 0.
+// Two exports, here and below: C has no generics, and so a name for each type of lanes.
 #[unsafe(no_mangle)]
 pub extern "C" fn repeat64(times: usize, seed: u64) -> u64
     ensures { result ≡ get_or (repeated (permuted 6 24) times (replicate 25 seed)) 0 0 }
@@ -22,7 +23,7 @@ pub extern "C" fn repeat64(times: usize, seed: u64) -> u64
     over::permuted([seed; 25], times)[0]
 }
 
-// KECCAK-f[800] likewise.
+// KECCAK-f[800] likewise. C's second name, since it has no generics.
 #[unsafe(no_mangle)]
 pub extern "C" fn repeat32(times: usize, seed: u32) -> u32
     ensures { result ≡ get_or (repeated (permuted 5 22) times (replicate 25 seed)) 0 0 }
@@ -31,6 +32,7 @@ pub extern "C" fn repeat32(times: usize, seed: u32) -> u32
 }
 
 // One session of a key and a nonce, and one message wrapped on it `times` times over; answers the permutation runs of the last wrap.
+// A name for each instance, since C has no generics; and a parameter for each buffer, since C has no slices that a struct could hold.
 #[unsafe(no_mangle)]
 pub extern "C" fn lake_wrap(
     times: usize,
@@ -47,6 +49,7 @@ pub extern "C" fn lake_wrap(
     over::wraps(begun, times, text, meta, out, tag)
 }
 
+// C's second name, since it has no generics.
 #[unsafe(no_mangle)]
 pub extern "C" fn river_wrap(
     times: usize,
@@ -63,7 +66,8 @@ pub extern "C" fn river_wrap(
     over::wraps(begun, times, text, meta, out, tag)
 }
 
-// The same of an unwrap: 0 where the tag is wrong.
+// The same of an unwrap: 0 where the tag is wrong. A name for each instance, since C has no generics; and a parameter for each buffer, since
+// C has no slices that a struct could hold.
 #[unsafe(no_mangle)]
 pub extern "C" fn lake_unwrap(
     times: usize,
@@ -80,6 +84,7 @@ pub extern "C" fn lake_unwrap(
     over::unwraps(begun, times, text, meta, tag, out)
 }
 
+// C's second name, since it has no generics.
 #[unsafe(no_mangle)]
 pub extern "C" fn river_unwrap(
     times: usize,

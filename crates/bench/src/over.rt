@@ -1,4 +1,7 @@
 // What is timed, at either width: the permutation, and one message wrapped or unwrapped on one session, `times` times over.
+// What its loops do is the law of a repeated step.
+#![tactic(auto, using(crate::proofs::Turns::turned_all, crate::proofs::Turns::turned_more))]
+
 ghost use Rattle.std.specs.Prelude.{◌≡◌, ◌+◌, ◌*◌};
 ghost use Rattle.keccak.specs.Permutes.{permuted};
 ghost use Rattle.keyak.specs.Keyak.{kind};
@@ -28,7 +31,8 @@ pub fn session<L: Lanes>(key: &[u8], nonce: &[u8]) -> Session<L>
     Session::start(key, nonce, false, StartTag::Produced, &mut tag).session
 }
 
-// Answers the permutation runs of the last wrap.
+// Answers the permutation runs of the last wrap. Its parameters are those of C's exports: a struct of them would be made in each export, only to be
+// taken apart here.
 pub fn wraps<L: Lanes>(
     begun: Session<L>,
     times: usize,
@@ -46,7 +50,7 @@ pub fn wraps<L: Lanes>(
     runs
 }
 
-// Answers the permutation runs of the last unwrap: 0 where the tag is wrong.
+// Answers the permutation runs of the last unwrap: 0 where the tag is wrong. Its parameters are those of C's exports, as above.
 pub fn unwraps<L: Lanes>(
     begun: Session<L>,
     times: usize,

@@ -1,5 +1,5 @@
 // A packet sealed and opened: its header as metadata, its readings as text, its tag behind them.
-use keyak::Session;
+use keyak::{Session, Turn};
 use lanes::Lanes;
 use packets::{HEADER, Packet};
 use table::{Done, Refusal, StartTag, TAG_BYTES};
@@ -20,10 +20,14 @@ pub struct Channel<L> {
 impl<L: Lanes> Channel<L> {
     // The first side produces the start tag, the second checks it.
     pub fn start(secrets: Secrets<'_>, choice: StartTag, tag: &mut [u8]) -> Result<Self, Refusal> {
-        let turn = Session::start(secrets.key, secrets.nonce, false, choice, tag);
-        turn.answer.map(|_| Channel {
-            session: turn.session,
-        })
+        let Turn { answer, session } = Session::start(
+            secrets.key,
+            secrets.nonce,
+            false,
+            choice,
+            tag,
+        );
+        answer.map(|_| Channel { session })
     }
 
     // The plain packet sealed: the same header, its readings as ciphertext, and the tag behind them.

@@ -1,6 +1,7 @@
 // The parts of a dip: the well's name, the month, the place of a reading.
-ghost use Rattle.std.specs.Prelude.{◌+◌, ◌%◌, ◌^◌, ◌++◌, Some, codes, decimal};
+ghost use Rattle.std.specs.Prelude.{◌≡◌, ◌+◌, ◌%◌, ◌^◌, ◌++◌, Some, codes, decimal};
 
+use dip::Header;
 use std::{fmt, str};
 
 // A well's name, as long as it is.
@@ -20,6 +21,19 @@ impl fmt::Display for Name {
 pub struct Date {
     pub year: u16,
     pub month: u8,
+}
+
+impl From<Header> for Date {
+    ghost from_gives = { λ h d. d ≡ record { year = h.year; month = h.month } };
+
+    fn from(header: Header) -> Date
+        ensures { result ≡ record { year = header.year; month = header.month } }
+    {
+        Date {
+            year: header.year,
+            month: header.month,
+        }
+    }
 }
 
 impl fmt::Display for Date {

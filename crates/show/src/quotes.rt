@@ -1,7 +1,7 @@
 // Bytes as a person reads them: as digits, and those of a file between quotes, one that is not printable by its number, and not too many.
 use std::fmt;
 
-// Two digits of base 16 for each.
+// Two digits of base 16 for each. A type of its own, as each way of printing is: one type for both, with the way beside the bytes, would be no plainer.
 #[derive(Clone, Copy, Debug, PartialEq, Eq)]
 pub struct Hex<'a>(pub &'a [u8]);
 
@@ -17,6 +17,7 @@ impl<'a> fmt::Display for Hex<'a> {
 // How many bytes are shown between quotes.
 const MOST: usize = 48;
 
+// A type of its own, as `Hex` is: bytes have no one `Display`.
 #[derive(Clone, Copy, Debug, PartialEq, Eq)]
 pub struct Quoted<'a>(pub &'a [u8]);
 

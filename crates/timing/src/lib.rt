@@ -1,5 +1,5 @@
 // One call of Lake and of River at a time from C, on a session whose lanes C lends. Serves bench/timing, which marks them secret; no public call.
-// C has a name for each instance, so the exports here are two of each, with the numbers that C has for an answer and a start tag's use: each is the generic call of `once`.
+// Each export is the generic call of `once` at its type.
 #![tactic(auto)]
 
 mod once;
@@ -9,6 +9,8 @@ ghost use Rattle.keyak.specs.Lake.{lake_kind};
 ghost use Rattle.keyak.specs.River.{river_kind};
 ghost use Rattle.timing.specs.Once.{once, starting, wrapping, unwrapping};
 
+// A name for each instance, since C has no generics; numbers for the start tag's use and the answer, as C's header declares them; and a parameter for
+// each buffer, since C has no slices that a struct could hold.
 #[unsafe(no_mangle)]
 pub extern "C" fn lake_start_once(
     key: &[u8],
@@ -23,6 +25,7 @@ pub extern "C" fn lake_start_once(
     once::start(key, nonce, forget, choice, tag, lanes)
 }
 
+// A name for each instance, a number for the answer and a parameter for each buffer: C has no generics, no `Result` and no slices for a struct.
 #[unsafe(no_mangle)]
 pub extern "C" fn lake_wrap_once(
     lanes: &mut [u64; 25],
@@ -38,6 +41,7 @@ pub extern "C" fn lake_wrap_once(
     once::wrap(lanes, at, text, meta, forget, out, tag)
 }
 
+// A name for each instance, a number for the answer and a parameter for each buffer: C has no generics, no `Result` and no slices for a struct.
 #[unsafe(no_mangle)]
 pub extern "C" fn lake_unwrap_once(
     lanes: &mut [u64; 25],
@@ -53,6 +57,7 @@ pub extern "C" fn lake_unwrap_once(
     once::unwrap(lanes, at, text, meta, tag, forget, out)
 }
 
+// C's second name, since it has no generics; its numbers and parameters are those of the first.
 #[unsafe(no_mangle)]
 pub extern "C" fn river_start_once(
     key: &[u8],
@@ -67,6 +72,7 @@ pub extern "C" fn river_start_once(
     once::start(key, nonce, forget, choice, tag, lanes)
 }
 
+// C's second name, since it has no generics; its numbers and parameters are those of the first.
 #[unsafe(no_mangle)]
 pub extern "C" fn river_wrap_once(
     lanes: &mut [u32; 25],
@@ -82,6 +88,7 @@ pub extern "C" fn river_wrap_once(
     once::wrap(lanes, at, text, meta, forget, out, tag)
 }
 
+// C's second name, since it has no generics; its numbers and parameters are those of the first.
 #[unsafe(no_mangle)]
 pub extern "C" fn river_unwrap_once(
     lanes: &mut [u32; 25],

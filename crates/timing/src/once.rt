@@ -7,7 +7,8 @@ use keyak::{Session, Turn};
 use lanes::Lanes;
 use table::{Phase, StartTag};
 
-// The start tag's use as C numbers it: 0 for none, 1 for produced, any other for checked. No `TryFrom`: C's clause has no number that is refused.
+// The start tag's use as C numbers it: 0 for none, 1 for produced, any other for checked. No `TryFrom`: by the exports'
+// clauses (`starting`) no number is refused.
 fn use_of(choice: u8) -> StartTag
     ensures { result ≡ use_of choice }
 {
@@ -29,6 +30,8 @@ fn resumed<L: Lanes>(lanes: L, at: usize) -> Session<L>
     }
 }
 
+// Here and below C's number is made once for both instances, and the parameters are those of C's exports, in their order: with typed ones, or a struct of
+// them, each of the six exports would hold the same conversion.
 pub fn start<L: Lanes>(
     key: &[u8],
     nonce: &[u8],
@@ -44,6 +47,7 @@ pub fn start<L: Lanes>(
     table::number_of(turn.answer)
 }
 
+// C's number and parameters, as in `start`.
 pub fn wrap<L: Lanes>(
     lanes: &mut L,
     at: usize,
@@ -60,6 +64,7 @@ pub fn wrap<L: Lanes>(
     table::number_of(turn.answer)
 }
 
+// C's number and parameters, as in `start`.
 pub fn unwrap<L: Lanes>(
     lanes: &mut L,
     at: usize,

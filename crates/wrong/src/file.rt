@@ -1,8 +1,10 @@
 // What is said of the program's words and its files where they stop the job, and that nothing was sealed. Serves the main job.
+ghost use Rattle.std.specs.Prelude.{◌≡◌};
+ghost use Rattle.std.specs.IoError.{error_kind};
+
 use show::{Quoted, Refused, tell};
-use std::fmt;
-use std::fmt::Display;
 use std::io::ErrorKind;
+use std::{fmt, io};
 use table::Refusal;
 
 // The three files, each with its limit in words.
@@ -23,8 +25,6 @@ impl fmt::Display for Input {
     }
 }
 
-// Functions that say one thing each stay apart, here and in what is said of a line: one for several would be handed their words, and its callers
-// would be no plainer.
 pub fn nothing(errors: &impl Print) {
     tell(errors, "Nothing was sealed.");
 }
@@ -59,10 +59,13 @@ pub fn no_instance(errors: &impl Print, word: &[u8]) {
     usage(errors);
 }
 
-// What is said of a file behind its name, whose bytes need not be text.
-pub fn of_file<D: Display + Drop>(errors: &impl Print, path: &[u8], message: D) {
-    let _ = errors.write_all(path);
-    tell(errors, message);
+// What keeps a file from being taken.
+#[derive(Clone, Copy, Debug, PartialEq, Eq)]
+pub enum BadFile {
+    Unread(ErrorKind),
+    TooLong(Input),
+    Marked,
+    NoMonth,
 }
 
 // Why a file could not be opened or read.
@@ -76,48 +79,53 @@ fn cause(kind: ErrorKind) -> &'static str {
     }
 }
 
-pub fn unread(errors: &impl Print, path: &[u8], kind: ErrorKind) {
-    of_file(errors, path, format_args!(": {}", cause(kind)));
+impl From<io::Error> for BadFile {
+    ghost use Rattle.wrong.specs.declared.file.BadFile.TheVariants.{Unread};
+
+    ghost from_gives = { λ e b. b ≡ Unread (error_kind e) };
+
+    fn from(error: io::Error) -> BadFile
+        ensures { result ≡ BadFile.Unread (error_kind error) }
+    {
+        BadFile::Unread(error.kind())
+    }
 }
 
-pub fn too_long(errors: &impl Print, path: &[u8], input: Input) {
-    of_file(errors, path, format_args!(": too long; {input}"));
+impl fmt::Display for BadFile {
+    fn fmt<W: fmt::Write>(&self, f: &mut fmt::Formatter<W>) -> fmt::Result {
+        match self {
+            BadFile::Unread(kind) => f.write_str(cause(*kind)),
+            BadFile::TooLong(input) => write!(f, "too long; {input}"),
+            BadFile::Marked => f.write_str(
+                "begins with a byte order mark, which is no part of a name; save it as plain text (ASCII) without one",
+            ),
+            BadFile::NoMonth => f.write_str("there is no month in it"),
+        }
+    }
 }
 
-pub fn marked(errors: &impl Print, path: &[u8]) {
-    of_file(
-        errors,
-        path,
-        ": begins with a byte order mark, which is no part of a name; save it as plain text (ASCII) without one",
-    );
+// A file's name is told first, whose bytes need not be text.
+pub fn of_file(errors: &impl Print, path: &[u8], why: BadFile) {
+    let _ = errors.write_all(path);
+    tell(errors, format_args!(": {why}"));
 }
 
-pub fn no_month(errors: &impl Print, path: &[u8]) {
-    of_file(errors, path, ": there is no month in it");
+// A call of the library that refused what the job handed it.
+#[derive(Clone, Copy, Debug, PartialEq, Eq)]
+pub enum BadCall {
+    Start(Refusal),
+    Seal(Refusal),
+    Open(Refusal),
 }
 
-// Calls of the library that refused what the job handed them.
-pub fn unstarted(errors: &impl Print, why: Refusal) {
-    tell(
-        errors,
-        format_args!("the session was not started: {}", Refused(why)),
-    );
-    nothing(errors);
-}
-
-pub fn unopened(errors: &impl Print, why: Refusal) {
-    tell(
-        errors,
-        format_args!("a month was not opened: {}", Refused(why)),
-    );
-}
-
-pub fn unsealed(errors: &impl Print, why: Refusal) {
-    tell(
-        errors,
-        format_args!("a month was not sealed: {}", Refused(why)),
-    );
-    nothing(errors);
+impl fmt::Display for BadCall {
+    fn fmt<W: fmt::Write>(&self, f: &mut fmt::Formatter<W>) -> fmt::Result {
+        match *self {
+            BadCall::Start(why) => write!(f, "the session was not started: {}", Refused(why)),
+            BadCall::Seal(why) => write!(f, "a month was not sealed: {}", Refused(why)),
+            BadCall::Open(why) => write!(f, "a month was not opened: {}", Refused(why)),
+        }
+    }
 }
 
 // The months were sealed and opened in memory alone, so what was not shown is lost.

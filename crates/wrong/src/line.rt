@@ -1,10 +1,13 @@
 // What is said of a line: one that does not stand, by its number, the word, what is wrong with it and the limit; and one that stands but is
 // worth a note. Serves the main job.
+ghost use Rattle.std.specs.Prelude.{◌≡◌};
+
 use crate::words::{Number, Well, Wrong};
 use dip::Header;
 use dip_text::{Field, Trouble};
 use line_text::Line;
 use show::{Name, Quoted, tell};
+use std::fmt;
 
 // An earlier month that a line is held against: its header, and the number of its line.
 #[derive(Clone, Copy, Debug, PartialEq, Eq)]
@@ -13,106 +16,109 @@ pub struct Earlier {
     pub line: usize,
 }
 
-// What is added where one that was read as a month was perhaps meant as a comment.
-fn hint(begins: &[u8]) -> &'static str {
-    if begins.starts_with(b"#") {
+// Why a line does not stand; the last three are not of the year that the first month began, or do not go on with the last one.
+#[derive(Clone, Copy, Debug, PartialEq, Eq)]
+pub enum WrongLine {
+    Indented,
+    Thirteenth,
+    NoMonth(Trouble),
+    OtherBorehole(Earlier),
+    OtherYear(Earlier),
+    NotAfter(Earlier),
+}
+
+impl From<Trouble> for WrongLine {
+    ghost use Rattle.wrong.specs.declared.line.WrongLine.TheVariants.{NoMonth};
+
+    ghost from_gives = { λ t w. w ≡ NoMonth t };
+
+    fn from(trouble: Trouble) -> WrongLine
+        ensures { result ≡ WrongLine.NoMonth trouble }
+    {
+        Self::NoMonth(trouble)
+    }
+}
+
+// What is added where a line that was read as a month, or the month that it is held against, was perhaps meant as a comment.
+fn hint(line: Line<'_>, other: Option<Earlier>) -> &'static str {
+    let beside = other.is_some_and(|month| month.header.name.starts_with(b"#"));
+    if beside || line.text.starts_with(b"#") {
         " (a comment begins with a blank, then #)"
     } else {
         ""
     }
 }
 
-// The same of a line that is held against another month: either may be the one.
-fn hint_beside(line: Line<'_>, other: Earlier) -> &'static str {
-    if other.header.name.starts_with(b"#") {
-        hint(b"#")
-    } else {
-        hint(line.text)
+// A line, with why it does not stand.
+#[derive(Clone, Copy)]
+struct Told<'a> {
+    line: Line<'a>,
+    why: WrongLine,
+}
+
+impl<'a> Told<'a> {
+    fn number(self, field: Field) -> Number<'a> {
+        Number {
+            line: self.line.text,
+            field,
+        }
+    }
+
+    // Of two months out of order either may be the one that is no month.
+    fn hint(self) -> &'static str {
+        let other = match self.why {
+            WrongLine::NotAfter(last) => Some(last),
+            _ => None,
+        };
+        hint(self.line, other)
     }
 }
 
-fn number(line: Line<'_>, field: Field) -> Number<'_> {
-    Number {
-        line: line.text,
-        field,
+impl<'a> fmt::Display for Told<'a> {
+    fn fmt<W: fmt::Write>(&self, f: &mut fmt::Formatter<W>) -> fmt::Result {
+        let line = self.line.text;
+        match self.why {
+            WrongLine::Indented => write!(
+                f,
+                "a blank stands before {}; a month begins with its well, a comment with a blank, then #",
+                Quoted(Well(line).name())
+            ),
+            WrongLine::Thirteenth => write!(
+                f,
+                "{} comes after twelve months; a year has no more",
+                Well(line)
+            ),
+            WrongLine::NoMonth(trouble) => write!(f, "{}", Wrong { line, trouble }),
+            WrongLine::OtherBorehole(first) => write!(
+                f,
+                "{} is another borehole than {} of line {}; a file is one borehole's year",
+                self.number(Field::Borehole),
+                first.header.borehole,
+                first.line
+            ),
+            WrongLine::OtherYear(first) => write!(
+                f,
+                "{} is another year than {} of line {}; a file is one borehole's year",
+                self.number(Field::Year),
+                first.header.year,
+                first.line
+            ),
+            WrongLine::NotAfter(last) => write!(
+                f,
+                "{} does not come after month {} of line {}; months rise, and none is given twice",
+                self.number(Field::Month),
+                last.header.month,
+                last.line
+            ),
+        }
     }
 }
 
-pub fn of(errors: &impl Print, line: Line<'_>, trouble: Trouble) {
-    let wrong = Wrong {
-        line: line.text,
-        trouble,
-    };
+pub fn of(errors: &impl Print, line: Line<'_>, why: WrongLine) {
+    let told = Told { line, why };
     tell(
         errors,
-        format_args!("line {}: {wrong}{}", line.number, hint(line.text)),
-    );
-}
-
-pub fn indented(errors: &impl Print, line: Line<'_>) {
-    let first = Quoted(Well(line.text).name());
-    tell(
-        errors,
-        format_args!(
-            "line {}: a blank stands before {first}; a month begins with its well, a comment with a blank, then #{}",
-            line.number,
-            hint(line.text)
-        ),
-    );
-}
-
-pub fn thirteenth(errors: &impl Print, line: Line<'_>) {
-    tell(
-        errors,
-        format_args!(
-            "line {}: {} comes after twelve months; a year has no more{}",
-            line.number,
-            Well(line.text),
-            hint(line.text)
-        ),
-    );
-}
-
-// A line that is not of the year that the first month began, or goes on with: its word, and what it is held against.
-pub fn other_borehole(errors: &impl Print, line: Line<'_>, first: Earlier) {
-    let borehole = number(line, Field::Borehole);
-    tell(
-        errors,
-        format_args!(
-            "line {}: {borehole} is another borehole than {} of line {}; a file is one borehole's year{}",
-            line.number,
-            first.header.borehole,
-            first.line,
-            hint(line.text)
-        ),
-    );
-}
-
-pub fn other_year(errors: &impl Print, line: Line<'_>, first: Earlier) {
-    let year = number(line, Field::Year);
-    tell(
-        errors,
-        format_args!(
-            "line {}: {year} is another year than {} of line {}; a file is one borehole's year{}",
-            line.number,
-            first.header.year,
-            first.line,
-            hint(line.text)
-        ),
-    );
-}
-
-pub fn not_after(errors: &impl Print, line: Line<'_>, last: Earlier) {
-    let month = number(line, Field::Month);
-    tell(
-        errors,
-        format_args!(
-            "line {}: {month} does not come after month {} of line {}; months rise, and none is given twice{}",
-            line.number,
-            last.header.month,
-            last.line,
-            hint_beside(line, last)
-        ),
+        format_args!("line {}: {told}{}", line.number, told.hint()),
     );
 }
 
@@ -126,7 +132,7 @@ pub fn renamed(errors: &impl Print, line: Line<'_>, last: Earlier) {
             Well(line.text),
             Name(last.header.name),
             last.line,
-            hint_beside(line, last)
+            hint(line, Some(last))
         ),
     );
 }

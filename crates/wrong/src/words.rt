@@ -4,7 +4,7 @@ use line_text::{Words, up_to};
 use show::{Quoted, Reading};
 use std::fmt;
 
-// The first word of a line, where a well stands.
+// The first word of a line, where a well stands. A type of its own: how bytes are told is each type's own `Display`.
 #[derive(Clone, Copy, Debug)]
 pub struct Well<'a>(pub &'a [u8]);
 
@@ -28,16 +28,19 @@ pub struct Number<'a> {
 }
 
 impl<'a> Number<'a> {
+    // Its place among the words of the line, counted from 0.
+    fn place(self) -> usize {
+        match self.field {
+            Field::Borehole => 1,
+            Field::Year => 2,
+            Field::Month => 3,
+            Field::Datum => 4,
+            Field::Reading { index } => index.saturating_add(5),
+        }
+    }
+
     fn word(self) -> &'a [u8] {
-        let mut words = Words::of(self.line);
-        let word = match self.field {
-            Field::Borehole => words.nth(1),
-            Field::Year => words.nth(2),
-            Field::Month => words.nth(3),
-            Field::Datum => words.nth(4),
-            Field::Reading { index } => words.skip(5).nth(index),
-        };
-        word.unwrap_or_default()
+        Words::of(self.line).nth(self.place()).unwrap_or_default()
     }
 }
 

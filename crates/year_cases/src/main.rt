@@ -8,7 +8,7 @@ mod unread;
 use std::rt::{Env, Files};
 use year_job::Words;
 
-// A case: its title, then the job's four words.
+// A case: its title, then the job's four words; an array, since a struct would name its five fields again in each row of the table below.
 type Case = [&'static str; 5];
 
 const KEY: &str = "sample.key";

@@ -9,10 +9,8 @@ const ARGUMENT: usize = 4096;
 
 // An argument, where it fits.
 fn argument<'a>(args: &impl Env, i: usize, room: &'a mut [u8]) -> Option<&'a [u8]> {
-    match args.arg(i, room) {
-        Ok(length) => Some(&room[..length]),
-        Err(_) => None,
-    }
+    let length = args.arg(i, room).ok()?;
+    Some(&room[..length])
 }
 
 // Whether there is an argument i, however long it is.

@@ -1,6 +1,6 @@
 // What the receiving side must refuse: a header taken one byte too long, a flipped bit, a month left out. Serves the main job.
 // Each is tried on a channel that opened the months before, at the last month that has readings.
-use crate::report::Report;
+use crate::report::{Report, Verdict};
 use channel::{Channel, Instance};
 use packets::{HEADER, Packet, READINGS};
 use show::Answered;
@@ -27,7 +27,9 @@ fn attempt<L: Instance>(
     let answer = channel.unseal(packet, head, &mut out);
     let size = (HEADER + packet.text_length()).saturating_sub(head);
     let zero = out.iter().take(size).all(|b| *b == 0);
-    report.refused &= zero && answer == Err(Refusal::TagDiffers);
+    if !zero || answer != Err(Refusal::TagDiffers) {
+        report.came(Verdict::NotRefused);
+    }
     let came = if zero {
         "no reading came out, the output is zero"
     } else {

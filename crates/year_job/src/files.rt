@@ -2,7 +2,7 @@
 use std::io::{ErrorKind, Read};
 use std::rt::Files;
 use std::{fs, io, str};
-use wrong::file::Input;
+use wrong::file::{BadFile, Input};
 
 // How long each file may be; wrong::file says the first. Of key and nonce more is read than either may have, so that the start refuses them.
 pub const DIPS: usize = 16384;
@@ -37,19 +37,20 @@ fn is_read(file: &mut impl Read) -> io::Result<bool> {
     Ok(file.read(&mut [0; 1])? == 0)
 }
 
-// A file by its name, or `None` where there is more of it than the room holds. No name that is not UTF-8 can be opened.
+// A file by its name. No name that is not UTF-8 can be opened.
 fn read<'a>(
     files: &impl Files,
     path: &'a [u8],
     room: &'a mut [u8],
-) -> io::Result<Option<Loaded<'a>>> {
-    match str::from_utf8(path) {
-        Err(_) => Err(io::Error::from(ErrorKind::InvalidInput)),
-        Ok(path) => {
-            let mut file = fs::open(files, path)?;
-            let bytes = fill(&mut file, room)?;
-            Ok(is_read(&mut file)?.then_some(Loaded { path, bytes }))
-        }
+    input: Input,
+) -> Result<Loaded<'a>, BadFile> {
+    let path = str::from_utf8(path).map_err(|_| BadFile::Unread(ErrorKind::InvalidInput))?;
+    let mut file = fs::open(files, path)?;
+    let bytes = fill(&mut file, room)?;
+    if is_read(&mut file)? {
+        Ok(Loaded { path, bytes })
+    } else {
+        Err(BadFile::TooLong(input))
     }
 }
 
@@ -61,14 +62,10 @@ pub fn load<'a>(
     room: &'a mut [u8],
     input: Input,
 ) -> Option<Loaded<'a>> {
-    match read(files, path, room) {
-        Ok(Some(loaded)) => Some(loaded),
-        Ok(None) => {
-            wrong::file::too_long(errors, path, input);
-            None
-        }
-        Err(error) => {
-            wrong::file::unread(errors, path, error.kind());
+    match read(files, path, room, input) {
+        Ok(loaded) => Some(loaded),
+        Err(why) => {
+            wrong::file::of_file(errors, path, why);
             None
         }
     }

@@ -15,31 +15,32 @@ pub struct Words<'a> {
     pub nonce: &'a [u8],
 }
 
-// All three files are read before any is looked into, so that each that cannot be read is told.
-fn run_with<L: Instance>(rt: &(impl Files + Print), errors: &impl Print, words: Words<'_>) {
+// `None` where nothing was sealed, and why was told. All three files are read before any is looked into, so that each that cannot be read is told.
+fn run_with<L: Instance>(
+    rt: &(impl Files + Print),
+    errors: &impl Print,
+    words: Words<'_>,
+) -> Option<()> {
     let mut dips = [0; files::DIPS];
     let mut key = [0; files::KEY];
     let mut nonce = [0; files::NONCE];
-    let read = (
-        files::load(rt, errors, words.dips, &mut dips, Input::Dips),
-        files::load(rt, errors, words.key, &mut key, Input::Key),
-        files::load(rt, errors, words.nonce, &mut nonce, Input::Nonce),
-    );
-    let (Some(dips), Some(key), Some(nonce)) = read else {
-        return wrong::file::nothing(errors);
-    };
-    match secrets::usable::<L>(errors, key, nonce) {
-        Some(secrets) => sealing::run::<L>(Report::new(rt, errors), secrets, dips),
-        None => wrong::file::nothing(errors),
-    }
+    let dips = files::load(rt, errors, words.dips, &mut dips, Input::Dips);
+    let key = files::load(rt, errors, words.key, &mut key, Input::Key);
+    let nonce = files::load(rt, errors, words.nonce, &mut nonce, Input::Nonce);
+    let (dips, key, nonce) = (dips?, key?, nonce?);
+    let secrets = secrets::usable::<L>(errors, key, nonce)?;
+    sealing::run::<L>(Report::new(rt, errors), secrets, dips)
 }
 
 // The table goes to standard output, and what is wrong to `errors`.
 pub fn run_on(rt: &(impl Files + Print), errors: &impl Print, words: Words<'_>) {
-    match words.instance {
+    let sealed = match words.instance {
         b"lake" => run_with::<[u64; 25]>(rt, errors, words),
         b"river" => run_with::<[u32; 25]>(rt, errors, words),
-        _ => wrong::file::no_instance(errors, words.instance),
+        _ => return wrong::file::no_instance(errors, words.instance),
+    };
+    if sealed.is_none() {
+        wrong::file::nothing(errors);
     }
 }
 
@@ -50,5 +51,7 @@ pub fn run_packets<L: Instance>(
     secrets: Secrets<'_>,
     found: &Found,
 ) {
-    sealing::send::<L>(Report::new(output, errors), secrets, found);
+    if sealing::send::<L>(Report::new(output, errors), secrets, found).is_none() {
+        wrong::file::nothing(errors);
+    }
 }

@@ -1,19 +1,38 @@
-// Where the job writes, and what holds of all that it did so far: the table that a person reads, its head, a row a month, its foot. Serves the main job.
+// Where the job writes, and how all that it did so far came out: the table that a person reads, its head, a row a month, its foot. Serves the main job.
 use dip::Header;
 use show::{Date, Hex, Name};
-use std::io;
+use std::{fmt, io};
 use year_text::{Found, Month};
 
-// Of all months so far: whether each could be read, each reading came out as it was sealed, each that was tampered with was refused, and all of
-// the table was written. Each of the four holds or fails by itself, so an enum of them would be no plainer.
+// How the year came out, from the good line to what is told before all else: readings that came out other than they were sealed are likely out of
+// range too, so that their months could not be read.
+#[derive(Clone, Copy, Debug, PartialEq, Eq, PartialOrd, Ord)]
+pub enum Verdict {
+    Same,
+    NotRefused,
+    Unread,
+    Altered,
+}
+
+impl fmt::Display for Verdict {
+    fn fmt<W: fmt::Write>(&self, f: &mut fmt::Formatter<W>) -> fmt::Result {
+        f.write_str(match self {
+            Verdict::Same => "Every reading came out as it was sealed.",
+            Verdict::NotRefused => "A tampered month was not refused.",
+            Verdict::Unread => "Not every month could be read.",
+            Verdict::Altered => "Not every reading came out as it was sealed.",
+        })
+    }
+}
+
+// Where the job writes, how all months so far came out, and whether all of the table was written: a flag, since that is told beside any verdict,
+// and the error of the part that failed is not wanted.
 #[derive_where(Clone, Copy)]
 pub struct Report<'a, O, E> {
     pub output: &'a O,
     pub errors: &'a E,
-    pub read: bool,
-    pub same: bool,
-    pub refused: bool,
-    pub written: bool,
+    verdict: Verdict,
+    written: bool,
 }
 
 // How many of the numbers are missing ones.
@@ -29,11 +48,14 @@ impl<'a, O: Print, E: Print> Report<'a, O, E> {
         Report {
             output,
             errors,
-            read: true,
-            same: true,
-            refused: true,
+            verdict: Verdict::Same,
             written: true,
         }
+    }
+
+    // What one month more, or one try more, came to.
+    pub fn came(&mut self, out: Verdict) {
+        self.verdict = self.verdict.max(out);
     }
 
     // The outcome of printing a part of the table.
@@ -51,10 +73,7 @@ impl<'a, O: Print, E: Print> Report<'a, O, E> {
 
     // The row of a month: its readings have so many bytes, and took so many runs. No number behind those of a month counts as missing.
     pub fn month(&mut self, header: Header, levels: &[i32], bytes: usize, runs: usize, tag: &[u8]) {
-        let date = Date {
-            year: header.year,
-            month: header.month,
-        };
+        let date = Date::from(header);
         let name = Name(header.name);
         let count = header.count;
         let gone = missing(levels);
@@ -71,23 +90,6 @@ impl<'a, O: Print, E: Print> Report<'a, O, E> {
         self.note(names);
     }
 
-    // How it came out; the good line only if all before it was written.
-    fn verdict(&self) -> &'static str {
-        if !self.same {
-            return "Not every reading came out as it was sealed.\n";
-        }
-        if !self.read {
-            return "Not every month could be read.\n";
-        }
-        if !self.refused {
-            return "A tampered month was not refused.\n";
-        }
-        if !self.written {
-            return "";
-        }
-        "Every reading came out as it was sealed.\n"
-    }
-
     // What of the file is in the table and what is not, then the last line: the program has no other way to tell how it came out.
     pub fn foot(&mut self, found: &Found) {
         let comments = found.comments;
@@ -97,8 +99,11 @@ impl<'a, O: Print, E: Print> Report<'a, O, E> {
             "\nSkipped lines: {comments} with a comment, {blanks} blank.\nMonths: {months}. "
         );
         self.note(lines);
-        let last = self.output.print(self.verdict());
-        self.note(last);
+        // The good line only if all before it was written.
+        if self.written || self.verdict != Verdict::Same {
+            let last = self.output.println(self.verdict);
+            self.note(last);
+        }
         if !self.written {
             wrong::file::unwritten(self.errors);
         }

@@ -1,10 +1,11 @@
 // The year sealed on one channel and opened on a second, each by one walk over its months. Serves the main job.
 use crate::files::Loaded;
-use crate::report::Report;
+use crate::report::{Report, Verdict};
 use crate::{attacks, opened};
 use channel::{Channel, Instance, Secrets};
 use packets::{HEADER, Packet, READINGS};
 use table::{Refusal, StartTag, TAG_BYTES};
+use wrong::file::{BadCall, BadFile};
 use year_text::{Found, Month};
 
 // The months' packets sealed, in a year's room. The first refusal ends it: what a packet hands to a wrap has lengths that it takes, so that it could
@@ -32,12 +33,14 @@ fn open_month<L: Instance>(
         Ok(done) => {
             let readings = &out[..sealed.text_length()];
             opened::month(report, sealed, readings, done.runs);
-            report.same &= readings == plain.text();
+            if readings != plain.text() {
+                report.came(Verdict::Altered);
+            }
         }
         Err(why) => {
-            wrong::file::unopened(report.errors, why);
-            report.read = false;
-            report.same = false;
+            show::tell(report.errors, BadCall::Open(why));
+            // None of its readings came out.
+            report.came(Verdict::Altered);
         }
     }
 }
@@ -57,62 +60,58 @@ fn open_year<L: Instance>(
     attacks::try_all(report, second, sealed);
 }
 
-// The second side, which checks the start tag of the first.
-fn receive<L: Instance>(
+// The months sealed on the first side, and opened on the second, which checks the start tag of the first.
+fn send_all<L: Instance>(
     report: &mut Report<'_, impl Print, impl Print>,
     secrets: Secrets<'_>,
-    tag: &mut [u8],
-    sealed: &[Packet],
     found: &Found,
-) {
-    match Channel::<L>::start(secrets, StartTag::Checked, tag) {
-        Ok(second) => {
-            report.head(L::NAME, tag);
-            open_year(report, second, sealed, found.year.months());
-            report.foot(found);
-        }
-        Err(why) => wrong::file::unstarted(report.errors, why),
-    }
+) -> Result<(), BadCall> {
+    let mut tag = [0; TAG_BYTES];
+    let months = found.year.months();
+    let first = Channel::<L>::start(secrets, StartTag::Produced, &mut tag).map_err(BadCall::Start)?;
+    let sealed = seal_all(first, months).map_err(BadCall::Seal)?;
+    let second = Channel::<L>::start(secrets, StartTag::Checked, &mut tag).map_err(BadCall::Start)?;
+    report.head(L::NAME, &tag);
+    open_year(report, second, &sealed[..months.len()], months);
+    report.foot(found);
+    Ok(())
 }
 
-// The months sealed on the first side, then the second.
+// `None` where nothing was sealed, and why was told.
 pub fn send<L: Instance>(
     mut report: Report<'_, impl Print, impl Print>,
     secrets: Secrets<'_>,
     found: &Found,
-) {
-    let mut tag = [0; TAG_BYTES];
-    match Channel::<L>::start(secrets, StartTag::Produced, &mut tag) {
-        Ok(first) => match seal_all(first, found.year.months()) {
-            Ok(sealed) => receive::<L>(
-                &mut report,
-                secrets,
-                &mut tag,
-                &sealed[..found.year.len],
-                found,
-            ),
-            Err(why) => wrong::file::unsealed(report.errors, why),
-        },
-        Err(why) => wrong::file::unstarted(report.errors, why),
+) -> Option<()> {
+    match send_all::<L>(&mut report, secrets, found) {
+        Ok(()) => Some(()),
+        Err(why) => {
+            show::tell(report.errors, why);
+            None
+        }
     }
+}
+
+// The year of a file, where there is one.
+fn year_of(errors: &impl Print, dips: Loaded<'_>) -> Option<Found> {
+    let path = dips.path.as_bytes();
+    if line_text::has_mark(dips.bytes) {
+        wrong::file::of_file(errors, path, BadFile::Marked);
+        return None;
+    }
+    let found = year_text::read_dips(errors, dips.bytes)?;
+    if found.year.months().is_empty() {
+        wrong::file::of_file(errors, path, BadFile::NoMonth);
+        return None;
+    }
+    Some(found)
 }
 
 pub fn run<L: Instance>(
     report: Report<'_, impl Print, impl Print>,
     secrets: Secrets<'_>,
     dips: Loaded<'_>,
-) {
-    let errors = report.errors;
-    if line_text::has_mark(dips.bytes) {
-        wrong::file::marked(errors, dips.path.as_bytes());
-        return wrong::file::nothing(errors);
-    }
-    match year_text::read_dips(errors, dips.bytes) {
-        Some(found) if found.year.len > 0 => send::<L>(report, secrets, &found),
-        Some(_) => {
-            wrong::file::no_month(errors, dips.path.as_bytes());
-            wrong::file::nothing(errors);
-        }
-        None => wrong::file::nothing(errors),
-    }
+) -> Option<()> {
+    let found = year_of(report.errors, dips)?;
+    send::<L>(report, secrets, &found)
 }

@@ -6,7 +6,6 @@ mod months;
 pub mod names;
 mod one_year;
 mod reader;
-mod wrong_line;
 
 pub use months::{Month, Year};
 pub use reader::{Found, read_dips};

@@ -30,12 +30,7 @@ struct Since(Header);
 
 impl fmt::Display for Since {
     fn fmt<W: fmt::Write>(&self, f: &mut fmt::Formatter<W>) -> fmt::Result {
-        let name = Name(self.0.name);
-        let date = Date {
-            year: self.0.year,
-            month: self.0.month,
-        };
-        write!(f, "{name} from {date}")
+        write!(f, "{} from {}", Name(self.0.name), Date::from(self.0))
     }
 }
 

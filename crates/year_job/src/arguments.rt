@@ -1,5 +1,7 @@
 // The job by the program's arguments. They are bytes, since a file's name need not be text, and are read into rooms of the stack: the job has
 // no heap that could run out.
+ghost use Rattle.std.specs.Prelude.{◌≤◌, length, IfSome};
+
 use crate::job::{self, Words};
 use std::env::FillError;
 use std::rt::{Env, Files};
@@ -8,7 +10,9 @@ use std::rt::{Env, Files};
 const ARGUMENT: usize = 4096;
 
 // An argument, where it fits.
-fn argument<'a>(args: &impl Env, i: usize, room: &'a mut [u8]) -> Option<&'a [u8]> {
+fn argument<'a>(args: &impl Env, i: usize, room: &'a mut [u8]) -> Option<&'a [u8]>
+    ensures { IfSome result (λ word. length word.now ≤ length room.old) }
+{
     let length = args.arg(i, room).ok()?;
     Some(&room[..length])
 }

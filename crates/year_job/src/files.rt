@@ -1,4 +1,6 @@
 // A file into a room that the caller lends, all of it or nothing. Serves the main job.
+ghost use Rattle.std.specs.Prelude.{◌≤◌, length, IfOk, IfSome};
+
 use std::io::{ErrorKind, Read};
 use std::rt::Files;
 use std::{fs, io, str};
@@ -20,7 +22,9 @@ pub struct Loaded<'a> {
 
 // Reads until the room is full or the file ends; what was read. A `read` takes what the system gives, so it counts; std's `read_to_end` wants the
 // heap. The loop of the program sessions is another: it keeps what came before a failure, which is told here.
-fn fill<'a>(file: &mut impl Read, room: &'a mut [u8]) -> io::Result<&'a [u8]> {
+fn fill<'a>(file: &mut impl Read, room: &'a mut [u8]) -> io::Result<&'a [u8]>
+    ensures { IfOk result (λ bytes. length bytes.now ≤ length room.old) }
+{
     let mut done = 0;
     while done < room.len() {
         let n = file.read(&mut room[done..])?;
@@ -43,7 +47,9 @@ fn read<'a>(
     path: &'a [u8],
     room: &'a mut [u8],
     input: Input,
-) -> Result<Loaded<'a>, BadFile> {
+) -> Result<Loaded<'a>, BadFile>
+    ensures { IfOk result (λ loaded. length loaded.bytes.now ≤ length room.old) }
+{
     let path = str::from_utf8(path).map_err(|_| BadFile::Unread(ErrorKind::InvalidInput))?;
     let mut file = fs::open(files, path)?;
     let bytes = fill(&mut file, room)?;
@@ -61,7 +67,9 @@ pub fn load<'a>(
     path: &'a [u8],
     room: &'a mut [u8],
     input: Input,
-) -> Option<Loaded<'a>> {
+) -> Option<Loaded<'a>>
+    ensures { IfSome result (λ loaded. length loaded.bytes.now ≤ length room.old) }
+{
     match read(files, path, room, input) {
         Ok(loaded) => Some(loaded),
         Err(why) => {

@@ -16,7 +16,7 @@ import itertools
 import re
 import sys
 
-from source import closing, plain, source, split
+from source import TOP, closing, plain, source, split
 
 WHOLE = r"(?:[ui](?:8|16|32|64|128|size))"
 POINTS = {1: "own enums, flags and numbers for Option, Result and enums", 2: "twins", 3: "loops counted by hand",
@@ -25,7 +25,7 @@ POINTS = {1: "own enums, flags and numbers for Option, Result and enums", 2: "tw
 # Functions of the dip's cases that are alike, and of the two programs that run vectors.
 CASES = [("read_three", "wrote_three"), ("run_left", "bytes_left"), ("read_some", "write_some"), ("read_refused", "write_refused")]
 RUNS = [("sessions/main", "dip_vectors/main", "lines"), ("sessions/around", "dip_vectors/around", "changes")]
-# Places that a reader finds and no rule does: point, crate/file, name, kind, what.
+# Places that a reader finds and no rule does: point, crate/file, name, kind, what; where the name stayed, a text of it that did not.
 BY_HAND = [
     (1, "vectors/tallies.rt", "NO_CALL", "numbers for kinds", "NO_CALL, beside kinds that have no name, 0 to 7"),
     *[(1, f"{c}/lib.rt", "Permuted", "a number that stands for none", "rounds: 0 where the count was refused") for c in ("keccak64", "keccak32", "permutation")],
@@ -45,7 +45,7 @@ BY_HAND = [
     (2, "year_job/files.rt", "fill", "functions alike", "vectors/file.rt read_full"),
     *[(2, "dip_cases/readings.rt", a, "functions alike", b) for pair in CASES for a, b in (pair, pair[::-1])],
     *[(2, f"{a}.rt", name, "functions alike", f"{b}.rt {name}") for one, other, name in RUNS for a, b in ((one, other), (other, one))],
-    (6, "world/hashes.rt", "all", "parallel arrays", "lengths, and the digits of all one after another"),
+    (6, "world/hashes.rt", "all", "parallel arrays", "lengths, and the digits of all one after another", "lengths: &[usize]"),
     (6, "year_text/names.rt", "is_new", "a set searched by hand", "whether a name stands among those of the months before"),
 ]
 # What a rule finds and is no place: point, crate/file, name, kind, why.
@@ -302,7 +302,7 @@ def other_whiles(items):
 def counted_fors(items):
     """A for over a range of numbers, by whether its number only reaches into a run (in brackets, or in a call of `at`) or is used otherwise."""
     for f in functions(items):
-        for found in re.finditer(r"\bfor\s+(\w+)\s+in\s+([^{]*\.\.[^{]*)\{", f.body):
+        for found in re.finditer(r"\bfor\s+(\w+)\s+in\s+([^{\[]*\.\.[^{]*)\{", f.body):
             name, inside = found[1], block(f.body, found.end() - 1)
             if name == "_":
                 continue
@@ -718,9 +718,9 @@ RULES = [flags, flags_alone, numbers_for_kinds, number_fields, number_results, n
 def places(items):
     """All places, each once, in the order of points, crates and lines."""
     found = {p for rule in RULES for p in rule(items)}
-    for point, place, name, kind, what in BY_HAND:
+    for point, place, name, kind, what, *text in BY_HAND:
         for i in items:
-            if i.place() == place and i.name == name and not any(p.point == point and (p.crate, p.file, p.line) == (i.crate, i.file, i.line) for p in found):
+            if i.place() == place and i.name == name and all(t in i.raw for t in text) and not any(p.point == point and (p.crate, p.file, p.line) == (i.crate, i.file, i.line) for p in found):
                 found.add(at(point, i, kind, f"{i.full()}: {what}"))
     inside = lambda p, i: (p.crate, p.file) == (i.crate, i.file) and i.line <= p.line <= i.line + i.raw.count("\n")  # noqa: E731
     none = [(point, kind, i) for point, place, name, kind, _ in NONE for i in items if i.place() == place and i.name == name]
@@ -733,7 +733,7 @@ def count(all_):
     for point, words in POINTS.items():
         mine = [p for p in all_ if p.point == point]
         rows.append(f"| **{point}** | **{words}** | **{len(mine)}** | **{len({p.crate for p in mine})}** |")
-        for kind in sorted({p.kind for p in mine}, key=lambda k: -sum(p.kind == k for p in mine)):
+        for kind in sorted({p.kind for p in mine}, key=lambda k: (-sum(p.kind == k for p in mine), k)):
             these = [p for p in mine if p.kind == kind]
             rows.append(f"| {point} | {kind} | {len(these)} | {', '.join(f'{c} {n}' for c, n in sorted(collections.Counter(p.crate for p in these).items()))} |")
     return "\n".join(rows)
@@ -754,10 +754,21 @@ def short(what):
     return "`" + what.replace("`", "'") + "`" if len(what) < 240 else "`" + what[:236].replace("`", "'") + " ..`"
 
 
+def above_impl(p):
+    """The comment above the impl that a place stands in."""
+    lines = (TOP / "crates" / p.crate / "src" / p.file).read_text().split("\n")[: p.line]
+    begins = next((k for k in range(len(lines) - 1, -1, -1) if re.match(r"\S", lines[k]) and not lines[k].startswith("//")), 0)
+    first = begins
+    while first and lines[first - 1].startswith("//"):
+        first -= 1
+    return plain(" ".join(line.lstrip("/ ") for line in lines[first:begins])) if lines[begins].startswith("impl") else ""
+
+
 def beside(items, p):
-    """The comments at a place: above the item that it stands in, and in it up to the place."""
+    """The comments at a place: above the impl and the item that it stands in, and in it up to the place."""
     inside = [i for i in items if (i.crate, i.file) == (p.crate, p.file) and i.line <= p.line <= i.line + i.raw.count("\n")]
-    return [f"    {i.notes}" for i in inside if i.notes] + [f"    {c.strip()}" for i in inside for c in re.findall(r"//([^\n]*)", i.raw)]
+    impl = above_impl(p)
+    return [f"    {impl}"] * bool(impl) + [f"    {i.notes}" for i in inside if i.notes] + [f"    {c.strip()}" for i in inside for c in re.findall(r"//([^\n]*)", i.raw)]
 
 
 def main(argv):

@@ -58,7 +58,8 @@ pub fn text_start(tagged: bool) -> usize
     if tagged { table::TAG_BYTES } else { 0 }
 }
 
-// Where the tag is not right, the n bytes of text that came out are cleared: a part of the lent output, whose rest `UnwrapLeaves` keeps.
+// Where the tag is not right, the n bytes of text that came out are cleared. All of the lent output with n, and not its front: the clause (`withheld`) speaks of the
+// rest too, which `UnwrapLeaves` keeps.
 pub fn withhold(right: bool, n: usize, out: &mut [u8])
     requires { n ≤ length out.old }
     ensures { out.new ≡ withheld right n out.old }

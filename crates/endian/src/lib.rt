@@ -55,6 +55,7 @@ impl Little for u16 {
     }
 }
 
+// As u16, by this type's own calls of std.
 impl Little for u32 {
     ghost size = { 4 };
 
@@ -78,6 +79,7 @@ impl Little for u32 {
     }
 }
 
+// As u16, by this type's own calls of std.
 impl Little for u64 {
     ghost size = { 8 };
 

@@ -34,6 +34,7 @@ pub struct Turn<L> {
 // The two types that have a name, which README and docs/ call by it: all else here is of either.
 pub type Lake = Session<[u64; 25]>;
 
+// As `Lake`, a name for a type.
 pub type River = Session<[u32; 25]>;
 
 impl<L: Lanes> Session<L> {

@@ -57,7 +57,7 @@ pub trait Lanes: Copy {
         requires { (q < 25) × (length s.now ≤ BYTES) }
         ensures { lanes self.new ≡ set (lanes self.old) q (bit_xor (get_or (lanes self.old) q 0) (from_bytes s.now)) };
 
-    // The bytes s, a whole lane's, under the key stream of lane q into out; and fewer bytes.
+    // The bytes s, a whole lane's, under the key stream of lane q into out; and fewer bytes. q, s and out apart, as above.
     fn mask_lane(&self, q: usize, s: &[u8], out: &mut [u8])
         requires { (q < 25) × (length s.now ≡ BYTES) × (length out.old ≡ length s.now) }
         ensures { out.new ≡ to_bytes (length s.now) (bit_xor (from_bytes s.now) (get_or (lanes self.now) q 0)) };

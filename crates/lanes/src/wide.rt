@@ -6,6 +6,8 @@ use crate::Lanes;
 use crate::steps::{chi, rho_pi, theta, turned};
 use endian::Little;
 
+// The four methods of one lane are as at the other width, a line each: std has no trait of integers that are loaded, stored and xored, and one of our own would have a
+// method for each line.
 impl Lanes for [u64; 25] {
     ghost L = { 6 };
 
@@ -41,7 +43,6 @@ impl Lanes for [u64; 25] {
         b
     }
 
-    // These four as at the other width, a line each: std has no trait of integers that are loaded, stored and xored, and one of our own would have a method for each line.
     fn xor_lane(&mut self, q: usize, s: &[u8]) {
         self[q] ^= u64::load(s);
     }

@@ -18,6 +18,7 @@ pub struct Permuted<L> {
 }
 
 // The last `rounds` rounds of KECCAK-f: 1 to 24 at 64 bits a lane, 1 to 22 at 32. Any other count does none, answers 0 and returns the lanes as given.
+// Not `permute12` with a count: that one's clause speaks of the bytes of a state.
 pub fn permute<L: Lanes>(lanes: L, rounds: usize) -> Permuted<L>
     ensures { Permutes L.L rounds (L.lanes lanes) result.rounds (L.lanes result.lanes) }
 {

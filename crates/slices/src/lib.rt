@@ -5,7 +5,8 @@
 ghost use Rattle.std.specs.Prelude.{◌≡◌};
 ghost use Rattle.slices.specs.Same.{same_bytes};
 
-// Not `a == b`, which ends at the first byte that differs: here every byte is looked at, so that the time tells nothing of where two tags differ.
+// Not `a == b`, which ends at the first byte that differs: here every byte is looked at, so that the time tells nothing of where two tags differ
+// (docs/SECURITY.md).
 pub fn same(a: &[u8], b: &[u8]) -> bool
     ensures { result ≡ same_bytes a.now b.now }
 {

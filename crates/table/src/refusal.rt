@@ -26,7 +26,7 @@ pub enum Refusal {
 }
 
 impl Refusal {
-    // Its number in the table.
+    // Its number in the table: the one beside its name above, by the language's own cast, since no trait of std gives it.
     pub fn number(self) -> u8
         ensures { result ≡ number self }
     {

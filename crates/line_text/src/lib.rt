@@ -1,5 +1,5 @@
-// The lines of a text, what each is (a month, a comment, blank, or indented) and its words. Serves the months of a text and what is said of
-// a line.
+// The lines of a text, what each is (a month, a comment, blank, or indented) and its words. Serves the months of a text, what is said of
+// a line, and the programs that run files of vectors.
 #![tactic(auto)]
 
 mod kind;

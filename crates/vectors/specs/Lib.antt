@@ -1,0 +1,2 @@
+-- The marks around a lent buffer.
+pub mod Mark

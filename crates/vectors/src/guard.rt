@@ -69,7 +69,7 @@ impl<'a> Guarded<'a> {
 
     // Whether all but the lent part is as it was marked.
     pub fn is_kept(&self) -> bool
-        ensures { IsTrue result ↔ AreMarked self.now.before.now 0 × AreMarked self.now.after.now (AROUND + length self.now.lent.now) }
+        ensures { IsTrue result ↔ (AreMarked self.now.before.now 0 × AreMarked self.now.after.now (AROUND + length self.now.lent.now)) }
     {
         are_marked(self.before, 0) && are_marked(self.after, AROUND + self.lent.len())
     }

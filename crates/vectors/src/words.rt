@@ -1,6 +1,7 @@
 // The words of a line of the vector layout (docs/VECTORS.md): words with a space between two, numbers, and bytes in five words.
 // What is no such word is read all the same, so that a call can be made with it, and is remembered: the line then differs.
-ghost use Rattle.std.specs.Prelude.{◌≡◌, ◌≤◌, ◌&&◌, length, is_none, true, false};
+ghost use Rattle.std.specs.Prelude.{◌≡◌, ◌≤◌, ◌&&◌, length, is_none, option_map, true, false, MatchOption};
+ghost use Rattle.vectors.specs.Line.{behind_space};
 
 use crate::bytes::{Bytes, are_digits};
 use decimal::LARGEST;
@@ -18,7 +19,8 @@ pub struct Words<'a> {
 impl<'a> Words<'a> {
     // Those past the first word of a line.
     pub fn past_first(line: &'a [u8]) -> Self
-        ensures { result.same ≡ true }
+        ensures rest { option_map (λ rest. rest.now) result.rest ≡ behind_space line.now }
+        ensures sound { result.same ≡ true }
     {
         let mut words = Words {
             rest: Some(line),
@@ -30,7 +32,8 @@ impl<'a> Words<'a> {
 
     // The next word; past the last it is empty.
     fn word(&mut self) -> &'a [u8]
-        ensures { self.new.same ≡ self.old.same }
+        ensures rest { MatchOption self.old.rest (self.new.rest ≡ None) (λ line. option_map (λ rest. rest.now) self.new.rest ≡ behind_space line.now) }
+        ensures same { self.new.same ≡ self.old.same }
     {
         let Some(rest) = self.rest else {
             return &[];

@@ -1,5 +1,6 @@
 // A buffer is lent as a part of a larger array, whose other bytes are marked before the call and looked at after it.
-ghost use Rattle.std.specs.Prelude.{◌≡◌, ◌≤◌, ◌+◌, length};
+ghost use Rattle.std.specs.Prelude.{◌≡◌, ◌≤◌, ◌+◌, ◌↔◌, length, IsTrue};
+ghost use Rattle.vectors.specs.Mark.{mark, AreMarked};
 
 use crate::words::Words;
 use trials::pattern::low;
@@ -21,13 +22,21 @@ pub struct Guarded<'a> {
 }
 
 // The mark at place i: no two neighbours have the same, so that a byte moved is seen as well.
-fn mark_at(i: usize) -> u8 {
+fn mark_at(i: usize) -> u8
+    ensures { result ≡ mark i }
+{
     low(i) ^ 165
 }
 
-// Whether each byte has its mark, where the first is at place `from`.
-fn are_marked(bytes: &[u8], from: usize) -> bool {
-    (from..).zip(bytes).all(|(i, byte)| *byte == mark_at(i))
+// Whether each byte has its mark, where the first is at place `from`. Not `(from..).zip(bytes)`: that ends at the largest number, and
+// would say nothing of the bytes past it.
+fn are_marked(bytes: &[u8], from: usize) -> bool
+    ensures { IsTrue result ↔ AreMarked bytes.now from }
+{
+    bytes
+        .iter()
+        .enumerate()
+        .all(|(i, byte)| *byte == mark_at(from.wrapping_add(i)))
 }
 
 impl<'a> Guarded<'a> {
@@ -59,7 +68,9 @@ impl<'a> Guarded<'a> {
     }
 
     // Whether all but the lent part is as it was marked.
-    pub fn is_kept(&self) -> bool {
+    pub fn is_kept(&self) -> bool
+        ensures { IsTrue result ↔ (AreMarked self.now.before.now 0 × AreMarked self.now.after.now (AROUND + length self.now.lent.now)) }
+    {
         are_marked(self.before, 0) && are_marked(self.after, AROUND + self.lent.len())
     }
 }

@@ -1,6 +1,7 @@
 // The words of a line of the vector layout (docs/VECTORS.md): words with a space between two, numbers, and bytes in five words.
 // What is no such word is read all the same, so that a call can be made with it, and is remembered: the line then differs.
-ghost use Rattle.std.specs.Prelude.{◌≡◌, ◌≤◌, ◌&&◌, length, is_none};
+ghost use Rattle.std.specs.Prelude.{◌≡◌, ◌≤◌, ◌&&◌, length, is_none, option_map, true, false, MatchOption};
+ghost use Rattle.vectors.specs.Line.{behind_space};
 
 use crate::bytes::{Bytes, are_digits};
 use decimal::LARGEST;
@@ -17,7 +18,10 @@ pub struct Words<'a> {
 
 impl<'a> Words<'a> {
     // Those past the first word of a line.
-    pub fn past_first(line: &'a [u8]) -> Self {
+    pub fn past_first(line: &'a [u8]) -> Self
+        ensures rest { option_map (λ rest. rest.now) result.rest ≡ behind_space line.now }
+        ensures sound { result.same ≡ true }
+    {
         let mut words = Words {
             rest: Some(line),
             same: true,
@@ -27,7 +31,10 @@ impl<'a> Words<'a> {
     }
 
     // The next word; past the last it is empty.
-    fn word(&mut self) -> &'a [u8] {
+    fn word(&mut self) -> &'a [u8]
+        ensures rest { MatchOption self.old.rest (self.new.rest ≡ None) (λ line. option_map (λ rest. rest.now) self.new.rest ≡ behind_space line.now) }
+        ensures same { self.new.same ≡ self.old.same }
+    {
         let Some(rest) = self.rest else {
             return &[];
         };
@@ -53,7 +60,8 @@ impl<'a> Words<'a> {
 
     // A number of at most `most`; what is more, or no number, is not sound.
     pub fn number(&mut self, most: usize) -> usize
-        ensures { result ≤ most }
+        ensures bounded { result ≤ most }
+        ensures unsound_stays { self.old.same ≡ false → self.new.same ≡ false }
     {
         let word = self.word();
         self.expect(decimal::read(word, most).is_ok());
@@ -61,12 +69,16 @@ impl<'a> Words<'a> {
     }
 
     // A number that is a choice: 0 or 1.
-    pub fn choice(&mut self) -> bool {
+    pub fn choice(&mut self) -> bool
+        ensures { self.old.same ≡ false → self.new.same ≡ false }
+    {
         self.number(1) == 1
     }
 
     // The words A B: byte i is A * i + B + 29 * (i / 256), modulo 256; where A is 0, every byte is B.
-    fn pattern(&mut self) -> Pattern {
+    fn pattern(&mut self) -> Pattern
+        ensures { self.old.same ≡ false → self.new.same ≡ false }
+    {
         let [step, first] = [self.number(255), self.number(255)].map(low);
         Pattern {
             first,
@@ -77,7 +89,9 @@ impl<'a> Words<'a> {
     }
 
     // The word HEX, of at most `most` bytes. Sound are a '-', or pairs of digits alone, one or more.
-    fn pairs(&mut self, most: usize) -> &'a [[u8; 2]] {
+    fn pairs(&mut self, most: usize) -> &'a [[u8; 2]]
+        ensures { self.old.same ≡ false → self.new.same ≡ false }
+    {
         let hex = self.word();
         if hex == b"-".as_slice() {
             return &[];
@@ -91,7 +105,8 @@ impl<'a> Words<'a> {
 
     // The words LENGTH A B PLACE HEX, of at most `most` bytes.
     fn bytes(&mut self, most: usize) -> Bytes<'a>
-        ensures { result.length ≤ most }
+        ensures bounded { result.length ≤ most }
+        ensures unsound_stays { self.old.same ≡ false → self.new.same ≡ false }
     {
         let length = self.number(most);
         let pattern = self.pattern();
@@ -107,7 +122,8 @@ impl<'a> Words<'a> {
 
     // The bytes of five words, which go to the front of `room`.
     pub fn given<'b>(&mut self, room: &'b mut [u8]) -> &'b mut [u8]
-        ensures { length result.now ≤ length room.old }
+        ensures bounded { length result.now ≤ length room.old }
+        ensures unsound_stays { self.old.same ≡ false → self.new.same ≡ false }
     {
         let told = self.bytes(room.len());
         let into = &mut room[..told.length];
@@ -118,44 +134,56 @@ impl<'a> Words<'a> {
     }
 
     // A number that must be told.
-    pub fn told(&mut self, got: usize) {
+    pub fn told(&mut self, got: usize)
+        ensures { self.old.same ≡ false → self.new.same ≡ false }
+    {
         let told = self.number(LARGEST);
         self.expect(told == got);
     }
 
     // Bytes that must be told, all of them.
-    pub fn equal(&mut self, got: &[u8]) {
+    pub fn equal(&mut self, got: &[u8])
+        ensures { self.old.same ≡ false → self.new.same ≡ false }
+    {
         let told = self.bytes(got.len());
         self.expect(told.length == got.len());
         self.expect(got.iter().enumerate().all(|(i, byte)| *byte == told.at(i)));
     }
 
     // Whether the next words are so many '-', which expect nothing; then they are passed.
-    fn untold(&mut self, words: usize) -> bool {
+    fn untold(&mut self, words: usize) -> bool
+        ensures { self.new.same ≡ self.old.same }
+    {
         let mut past = *self;
         let all = (0..words).all(|_| past.word() == b"-".as_slice());
         if all {
-            *self = past;
+            self.rest = past.rest;
         }
         all
     }
 
     // A number, or a '-'.
-    pub fn count(&mut self, got: usize) {
+    pub fn count(&mut self, got: usize)
+        ensures { self.old.same ≡ false → self.new.same ≡ false }
+    {
         if !self.untold(1) {
             self.told(got);
         }
     }
 
     // Bytes, or five '-'.
-    pub fn buffer(&mut self, got: &[u8]) {
+    pub fn buffer(&mut self, got: &[u8])
+        ensures { self.old.same ≡ false → self.new.same ≡ false }
+    {
         if !self.untold(5) {
             self.equal(got);
         }
     }
 
     // The words NUMBER WRITTEN RUNS.
-    pub fn answer(&mut self, got: Answer) {
+    pub fn answer(&mut self, got: Answer)
+        ensures { self.old.same ≡ false → self.new.same ≡ false }
+    {
         self.count(usize::from(got.number));
         self.count(got.written);
         self.count(got.runs);

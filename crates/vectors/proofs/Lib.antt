@@ -1,0 +1,2 @@
+-- What is left of a line behind its first word.
+pub mod Behind

@@ -16,6 +16,7 @@ pub struct Words<'a> {
     same: bool,
 }
 
+// Each method says for itself that what was unsound stays so: it is said of before and after, which no invariant of the type can.
 impl<'a> Words<'a> {
     // Those past the first word of a line.
     pub fn past_first(line: &'a [u8]) -> Self

@@ -22,12 +22,8 @@ fn crypt<L: Lanes>(lanes: L, at: ByteCount, text: &[u8], out: &mut [u8], decrypt
 {
     piston::stream(lanes, at, text, out);
     let mut state = lanes;
-    // A flag, since a message says it from outside: a closure for two calls of one function would be no plainer.
-    if decrypt {
-        piston::xor_in(&mut state, at, out);
-    } else {
-        piston::xor_in(&mut state, at, text);
-    }
+    let plain: &[u8] = if decrypt { out } else { text };
+    piston::xor_in(&mut state, at, plain);
     state
 }
 

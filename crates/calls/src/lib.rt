@@ -1,6 +1,6 @@
 // What start, wrap and unwrap do, at any instance: definitions and promises in specs/, the proofs of the promises in proofs/.
 // In code here is what no instance changes: which refusal is given, the answer, where the next text starts, what a wrong tag withholds.
-// Serves the instances; no public call.
+// Serves `keyak`; no public call.
 #![tactic(auto)]
 
 ghost use Rattle.std.specs.Prelude.{◌≡◌, ◌≤◌, length};

@@ -31,13 +31,15 @@ pub trait Little: Copy {
         ensures { out.new ≡ to_bytes (length out.old) (value self) };
 }
 
-// The three are alike but for the type: std has from_le_bytes, to_le_bytes and From for each type by name and under no trait, and no macro may write an impl that the gate takes.
+// The three are alike but for the type: std has from_le_bytes and to_le_bytes for each type by name and under no trait, and no macro may write an impl that the gate
+// takes. `load_part` and `store_part` as provided methods would want a law of each type's `From` and `Into` in place of its line.
 impl Little for u16 {
     ghost size = { 2 };
 
     ghost value = { λ x. x };
 
     fn load(s: &[u8]) -> u16 {
+        // Byte by byte, so that the check sees the number by computing, and the compiler one load.
         u16::from_le_bytes([s[0], s[1]])
     }
 

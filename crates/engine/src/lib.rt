@@ -49,7 +49,8 @@ fn group<L: Lanes>(
         meta: ByteCount::of(meta),
     };
     let mut cut = whole.first(at);
-    // No `for`: how many blocks there are is known only when the last is cut, and an iterator of cuts would be a type and an impl for this one loop.
+    // No `for`: how many blocks there are is known only when the last is cut; `iter::successors` over cuts would have to be told again, in the clauses of its closure,
+    // what `first`, `more` and `next` ensure.
     let mut going = true;
     while going {
         let more = whole.more(cut);
@@ -62,16 +63,22 @@ fn group<L: Lanes>(
     Ran { lanes: state, runs }
 }
 
-// A knot: the chaining value goes in as metadata of one new block.
-fn knot<L: Lanes>(lanes: L, eom: u8) -> L
-    ensures { bytes L.BYTES (L.lanes result) ≡ absorb (keccak_bytes L.L 12) (bytes L.BYTES (L.lanes lanes)) (block (instance L.L) 0 [] 0 (take (chain_length (instance L.L)) (bytes L.BYTES (L.lanes lanes))) eom) }
+// A knot behind a group: the chaining value goes in as metadata of one new block.
+fn knot<L: Lanes>(chained: Ran<L>, eom: u8) -> Ran<L>
+    requires { chained.runs ≤ 131071 }
+    ensures lanes_value { bytes L.BYTES (L.lanes result.lanes) ≡ absorb (keccak_bytes L.L 12) (bytes L.BYTES (L.lanes chained.lanes)) (block (instance L.L) 0 [] 0 (take (chain_length (instance L.L)) (bytes L.BYTES (L.lanes chained.lanes))) eom) }
+    ensures runs_value { result.runs ≡ chained.runs + 1 }
 {
     let mut value = [0u8; rates::CHAIN_BYTES.0];
-    piston::squeeze(lanes, &mut value);
-    blocks::inject(lanes, &value, eom)
+    piston::squeeze(chained.lanes, &mut value);
+    Ran {
+        lanes: blocks::inject(chained.lanes, &value, eom),
+        runs: chained.runs + 1,
+    }
 }
 
-// A whole message. Where its text starts is bounded by the lanes' own rate: a type for such a place would be generic over lanes that it does not hold.
+// A whole message. Where its text starts is bounded by the lanes' own rate: a type for such a place would be generic over lanes that it does not hold. Text, metadata and
+// forgetting come one by one: a struct of them would be made at each of the calls, and taken apart here.
 pub fn message<L: Lanes>(
     lanes: L,
     at: ByteCount,
@@ -87,13 +94,10 @@ pub fn message<L: Lanes>(
 {
     let rates = Rates::of::<L>();
     let eom = plan::eom_tag(rates);
-    // Forgetting is a choice of the caller from outside, and a knot more is what it means: a closure would be no plainer.
+    // Forgetting is a choice of the caller from outside. What it picks is a knot more, and the EOM of the group before it: a closure would hide the two lines.
     if forget {
         let chained = group(lanes, at, text, meta, rates.chain.as_byte(), out, decrypt);
-        return Ran {
-            lanes: knot(chained.lanes, eom),
-            runs: chained.runs + 1,
-        };
+        return knot(chained, eom);
     }
     group(lanes, at, text, meta, eom, out, decrypt)
 }
@@ -113,7 +117,7 @@ fn start_block_in<L: Lanes>(
     blocks::inject(lanes, part, eom)
 }
 
-// The same with n bytes.
+// A block of n bytes of a start, through a buffer of its own.
 fn start_block<L: Lanes>(
     lanes: L,
     opening: Opening<'_>,
@@ -165,13 +169,10 @@ pub fn start<L: Lanes>(key: &[u8], nonce: &[u8], forget: bool, tagged: bool) -> 
         nonce,
     };
     let eom = plan::eom_of(rates, tagged);
-    // As in `message`: a knot more is what forgetting means, and a closure would be no plainer.
+    // As in `message`: a knot more, and the EOM of the group before it.
     if forget {
         let chained = start_group(opening, rates.chain.as_byte());
-        return Ran {
-            lanes: knot(chained.lanes, eom),
-            runs: chained.runs + 1,
-        };
+        return knot(chained, eom);
     }
     start_group(opening, eom)
 }

@@ -34,7 +34,7 @@ pub struct Turn<L> {
 // The two types that have a name, which README and docs/ call by it: all else here is of either.
 pub type Lake = Session<[u64; 25]>;
 
-// As `Lake`, a name for a type.
+// The other of the two.
 pub type River = Session<[u32; 25]>;
 
 impl<L: Lanes> Session<L> {
@@ -52,7 +52,7 @@ impl<L: Lanes> Session<L> {
     }
 
     // Starts a session from a key and a nonce; the start tag is not asked for, goes into `tag`, or must be the one in `tag`.
-    // Key, nonce, forgetting and choice one by one, as README's calls and the clause (`start_of`) have them: a struct would be one more thing to fill in.
+    // Key, nonce, forgetting and choice one by one, as README's call and the clause (`start_of`) have them: a struct would be one more thing to fill in.
     pub fn start(
         key: &[u8],
         nonce: &[u8],
@@ -69,7 +69,8 @@ impl<L: Lanes> Session<L> {
     }
 
     // Seals `text` with `meta`: the ciphertext goes to the front of `out`, the tag into `tag`.
-    // Text, metadata, forgetting and output one by one, as README's calls and the clause (`wrap_of`) have them: a struct would be one more thing to fill in.
+    // Text, metadata, forgetting and output one by one, as README's calls have them: a struct would be one more thing to fill in. They go on so to where they part, in
+    // `engine::message`.
     pub fn wrap(
         self,
         text: &[u8],

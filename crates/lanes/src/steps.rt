@@ -1,51 +1,19 @@
-// The steps of a round on 25 lanes, each said once for both widths of a lane: the width is the last argument. Each reads every lane once, into a local, and makes
-// a new set of lanes: so it needs no proof file, and is fast.
-
-// A lane turned left by n of 64 bits: by n modulo its width, which is never 0 here.
-macro_rules! turned {
-    ($lane:ident, $n:literal, $bits:literal) => {
-        ($lane << ($n % $bits)) | ($lane >> ($bits - $n % $bits))
-    };
-}
+// The steps of a round on 25 lanes, each said once for both widths of a lane: the width is the last argument. Each takes every lane once, into a local, and makes
+// a new set of lanes: so it needs no proof file, and is fast. A turn is by an offset modulo the width, which is never 0 here.
 
 macro_rules! theta {
     ($lanes:expr, $bits:literal) => {{
-        let a = $lanes;
-        let a0 = a[0];
-        let a1 = a[1];
-        let a2 = a[2];
-        let a3 = a[3];
-        let a4 = a[4];
-        let a5 = a[5];
-        let a6 = a[6];
-        let a7 = a[7];
-        let a8 = a[8];
-        let a9 = a[9];
-        let a10 = a[10];
-        let a11 = a[11];
-        let a12 = a[12];
-        let a13 = a[13];
-        let a14 = a[14];
-        let a15 = a[15];
-        let a16 = a[16];
-        let a17 = a[17];
-        let a18 = a[18];
-        let a19 = a[19];
-        let a20 = a[20];
-        let a21 = a[21];
-        let a22 = a[22];
-        let a23 = a[23];
-        let a24 = a[24];
+        let [a0, a1, a2, a3, a4, a5, a6, a7, a8, a9, a10, a11, a12, a13, a14, a15, a16, a17, a18, a19, a20, a21, a22, a23, a24] = $lanes;
         let c0 = a0 ^ a5 ^ a10 ^ a15 ^ a20;
         let c1 = a1 ^ a6 ^ a11 ^ a16 ^ a21;
         let c2 = a2 ^ a7 ^ a12 ^ a17 ^ a22;
         let c3 = a3 ^ a8 ^ a13 ^ a18 ^ a23;
         let c4 = a4 ^ a9 ^ a14 ^ a19 ^ a24;
-        let d0 = c4 ^ turned!(c1, 1, $bits);
-        let d1 = c0 ^ turned!(c2, 1, $bits);
-        let d2 = c1 ^ turned!(c3, 1, $bits);
-        let d3 = c2 ^ turned!(c4, 1, $bits);
-        let d4 = c3 ^ turned!(c0, 1, $bits);
+        let d0 = c4 ^ c1.rotate_left(1 % $bits);
+        let d1 = c0 ^ c2.rotate_left(1 % $bits);
+        let d2 = c1 ^ c3.rotate_left(1 % $bits);
+        let d3 = c2 ^ c4.rotate_left(1 % $bits);
+        let d4 = c3 ^ c0.rotate_left(1 % $bits);
         [
             a0 ^ d0,
             a1 ^ d1,
@@ -78,90 +46,40 @@ macro_rules! theta {
 
 macro_rules! rho_pi {
     ($lanes:expr, $bits:literal) => {{
-        let a = $lanes;
-        let a0 = a[0];
-        let a1 = a[1];
-        let a2 = a[2];
-        let a3 = a[3];
-        let a4 = a[4];
-        let a5 = a[5];
-        let a6 = a[6];
-        let a7 = a[7];
-        let a8 = a[8];
-        let a9 = a[9];
-        let a10 = a[10];
-        let a11 = a[11];
-        let a12 = a[12];
-        let a13 = a[13];
-        let a14 = a[14];
-        let a15 = a[15];
-        let a16 = a[16];
-        let a17 = a[17];
-        let a18 = a[18];
-        let a19 = a[19];
-        let a20 = a[20];
-        let a21 = a[21];
-        let a22 = a[22];
-        let a23 = a[23];
-        let a24 = a[24];
+        let [a0, a1, a2, a3, a4, a5, a6, a7, a8, a9, a10, a11, a12, a13, a14, a15, a16, a17, a18, a19, a20, a21, a22, a23, a24] = $lanes;
         [
             a0,
-            turned!(a6, 44, $bits),
-            turned!(a12, 43, $bits),
-            turned!(a18, 21, $bits),
-            turned!(a24, 14, $bits),
-            turned!(a3, 28, $bits),
-            turned!(a9, 20, $bits),
-            turned!(a10, 3, $bits),
-            turned!(a16, 45, $bits),
-            turned!(a22, 61, $bits),
-            turned!(a1, 1, $bits),
-            turned!(a7, 6, $bits),
-            turned!(a13, 25, $bits),
-            turned!(a19, 8, $bits),
-            turned!(a20, 18, $bits),
-            turned!(a4, 27, $bits),
-            turned!(a5, 36, $bits),
-            turned!(a11, 10, $bits),
-            turned!(a17, 15, $bits),
-            turned!(a23, 56, $bits),
-            turned!(a2, 62, $bits),
-            turned!(a8, 55, $bits),
-            turned!(a14, 39, $bits),
-            turned!(a15, 41, $bits),
-            turned!(a21, 2, $bits),
+            a6.rotate_left(44 % $bits),
+            a12.rotate_left(43 % $bits),
+            a18.rotate_left(21 % $bits),
+            a24.rotate_left(14 % $bits),
+            a3.rotate_left(28 % $bits),
+            a9.rotate_left(20 % $bits),
+            a10.rotate_left(3 % $bits),
+            a16.rotate_left(45 % $bits),
+            a22.rotate_left(61 % $bits),
+            a1.rotate_left(1 % $bits),
+            a7.rotate_left(6 % $bits),
+            a13.rotate_left(25 % $bits),
+            a19.rotate_left(8 % $bits),
+            a20.rotate_left(18 % $bits),
+            a4.rotate_left(27 % $bits),
+            a5.rotate_left(36 % $bits),
+            a11.rotate_left(10 % $bits),
+            a17.rotate_left(15 % $bits),
+            a23.rotate_left(56 % $bits),
+            a2.rotate_left(62 % $bits),
+            a8.rotate_left(55 % $bits),
+            a14.rotate_left(39 % $bits),
+            a15.rotate_left(41 % $bits),
+            a21.rotate_left(2 % $bits),
         ]
     }};
 }
 
 macro_rules! chi {
     ($lanes:expr) => {{
-        let a = $lanes;
-        let a0 = a[0];
-        let a1 = a[1];
-        let a2 = a[2];
-        let a3 = a[3];
-        let a4 = a[4];
-        let a5 = a[5];
-        let a6 = a[6];
-        let a7 = a[7];
-        let a8 = a[8];
-        let a9 = a[9];
-        let a10 = a[10];
-        let a11 = a[11];
-        let a12 = a[12];
-        let a13 = a[13];
-        let a14 = a[14];
-        let a15 = a[15];
-        let a16 = a[16];
-        let a17 = a[17];
-        let a18 = a[18];
-        let a19 = a[19];
-        let a20 = a[20];
-        let a21 = a[21];
-        let a22 = a[22];
-        let a23 = a[23];
-        let a24 = a[24];
+        let [a0, a1, a2, a3, a4, a5, a6, a7, a8, a9, a10, a11, a12, a13, a14, a15, a16, a17, a18, a19, a20, a21, a22, a23, a24] = $lanes;
         [
             a0 ^ (!a1 & a2),
             a1 ^ (!a2 & a3),
@@ -195,4 +113,3 @@ macro_rules! chi {
 pub(crate) use chi;
 pub(crate) use rho_pi;
 pub(crate) use theta;
-pub(crate) use turned;

@@ -3,11 +3,11 @@ ghost use Rattle.std.specs.Prelude.{refl};
 ghost use Rattle.lanes.specs.Width.{width64};
 
 use crate::Lanes;
-use crate::steps::{chi, rho_pi, theta, turned};
+use crate::steps::{chi, rho_pi, theta};
 use endian::Little;
 
-// The four methods of one lane are as at the other width, a line each: std has no trait of integers that are loaded, stored and xored, and one of our own would have a
-// method for each line.
+// The four methods of one lane are as at the other width, a line or two each: as provided methods over a lane's own type they would want its xor as a law, and a method
+// that lends one lane, for each of the two.
 impl Lanes for [u64; 25] {
     ghost L = { 6 };
 

@@ -17,7 +17,7 @@ pub use group::Group;
 pub use opening::Opening;
 
 // The block's text is the message's from `text` up to `textend`, from byte `at` of the block on; metadata likewise, from `from` on.
-// No ranges: the laws of the walk (`Fits`, `Stage`, `step`) speak of the four places one by one.
+// No ranges: a `Range` is not `Copy`, and a cut is handed on by value; the laws of the walk (`Fits`, `Stage`, `step`) speak of the four places one by one.
 #[derive(Clone, Copy, Debug, PartialEq, Eq)]
 pub struct Cut {
     pub at: ByteCount,

@@ -20,7 +20,8 @@ pub struct Done {
     pub runs: usize,
 }
 
-// The same in the client's numbers, for who cannot take a `Result`: the second program's vectors, and C. A refusal counts 0 and 0.
+// The same in the client's numbers, as the second program's vectors tell it and the clauses of the calls read it (`answer_of`): README names it for who stores answers.
+// A refusal counts 0 and 0.
 #[derive(Clone, Copy, Debug, PartialEq, Eq)]
 pub struct Answer {
     pub number: u8,

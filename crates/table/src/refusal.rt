@@ -26,7 +26,7 @@ pub enum Refusal {
 }
 
 impl Refusal {
-    // Its number in the table: the one beside its name above, by the language's own cast, since no trait of std gives it.
+    // Its number in the table: the one beside its name above. A method and no `From`: README's callers name it.
     pub fn number(self) -> u8
         ensures { result ≡ number self }
     {
@@ -34,7 +34,7 @@ impl Refusal {
     }
 }
 
-// The number of an answer, as 01's table and C have it: 0 where the call is done.
+// The number of an answer, as the client's table and C have it: 0 where the call is done.
 pub fn number_of<T: Copy>(answer: Result<T, Refusal>) -> u8
     ensures { result ≡ number_of answer }
 {

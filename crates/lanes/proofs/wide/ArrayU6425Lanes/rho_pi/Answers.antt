@@ -1,6 +1,0 @@
--- Found alone too; but only with this is a wrong turn refused by what differs, and not by a search that breaks off.
-use mathlib.Core.Path.{refl}
-use Rattle.lanes.proofs.wide.ArrayU6425Lanes.rho_pi.Goals as goal
-
-pub returns : goal.returns
-returns c = refl

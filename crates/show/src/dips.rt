@@ -9,10 +9,15 @@ use std::{fmt, str};
 pub struct Name(pub [u8; 12]);
 
 impl fmt::Display for Name {
-    // A header that stands has a name of 0x21 to 0x7e, which is text.
+    // A header that stands has a name of 0x21 to 0x7e; of another name what is text up to its first byte that is none.
     fn fmt<W: fmt::Write>(&self, f: &mut fmt::Formatter<W>) -> fmt::Result {
         let end = self.0.iter().position(|b| *b == 0).unwrap_or(12);
-        f.pad(str::from_utf8(&self.0[..end]).map_err(|_| fmt::Error)?)
+        let name = &self.0[..end];
+        let text = match str::from_utf8(name) {
+            Ok(text) => text,
+            Err(error) => str::from_utf8(&name[..error.valid_up_to()]).unwrap_or_default(),
+        };
+        f.pad(text)
     }
 }
 

@@ -1,4 +1,4 @@
-// The line of a group of cases: its name, and what each case answered.
+// The lines of the groups of cases: the name of each, and what each of its cases answered.
 use dip::BadReadings;
 use std::{fmt, io};
 use table::Refusal;
@@ -28,17 +28,42 @@ impl fmt::Display for Told {
     }
 }
 
-// One case: what it answered, and whether that and all that it left was right.
-pub fn case<D: fmt::Display + Drop>(
-    rt: &impl Print,
-    all: &mut Tally,
-    answer: D,
-    right: bool,
-) -> io::Result<()> {
-    print!(rt; " {answer}")?;
-    if !right {
-        print!(rt; "(differs)")?;
+// What a case answered: an `Err` where that, or anything that the call left, was not right.
+pub fn judged<T: Drop>(answer: T, right: bool) -> Result<T, T> {
+    if right { Ok(answer) } else { Err(answer) }
+}
+
+// Where the cases are printed, and how all of them so far came out.
+#[derive_where(Clone, Copy)]
+pub struct Cases<'a, P> {
+    rt: &'a P,
+    pub tally: Tally,
+}
+
+impl<'a, P: Print> Cases<'a, P> {
+    pub fn new(rt: &'a P) -> Self {
+        Cases {
+            rt,
+            tally: Tally::default(),
+        }
     }
-    all.note(right);
-    Ok(())
+
+    // The name of a group, at the head of its line.
+    pub fn begin(&self, name: &str) -> io::Result<()> {
+        print!(self.rt; "{name}:")
+    }
+
+    // One case, as it was judged.
+    pub fn case<T: fmt::Display + Drop>(&mut self, outcome: Result<T, T>) -> io::Result<()> {
+        self.tally.note(outcome.is_ok());
+        match outcome {
+            Ok(answer) => print!(self.rt; " {answer}"),
+            Err(answer) => print!(self.rt; " {answer}(differs)"),
+        }
+    }
+
+    // The end of a group's line.
+    pub fn end(&self) -> io::Result<()> {
+        println!(self.rt; "")
+    }
 }

@@ -1,11 +1,10 @@
 // Headers: each case is a header, the 24 bytes that say it, and the number expected of writing the one and of reading the other.
 ghost use Rattle.std.specs.Prelude.{◌+◌, ◌≤◌, length};
 
-use crate::group;
+use crate::group::{Cases, judged};
 use dip::Header;
 use std::io;
 use table::number_of;
-use trials::tally::Tally;
 
 // A well of the usual kind, and its bytes.
 pub const USUAL: Header = Header {
@@ -54,7 +53,7 @@ impl Case {
     }
 
     // Written into AA: the bytes where it is done, what was lent where it is refused.
-    fn write(self) -> (u8, bool) {
+    fn write(self) -> Result<u8, u8> {
         let mut out = [0xaa; 24];
         let number = number_of(dip::write_header(self.header, &mut out));
         let left = if self.expected == 0 {
@@ -62,26 +61,24 @@ impl Case {
         } else {
             [0xaa; 24]
         };
-        (number, number == self.expected && out == left)
+        judged(number, number == self.expected && out == left)
     }
 
-    fn read(self) -> (u8, bool) {
+    fn read(self) -> Result<u8, u8> {
         let answer = dip::read_header(&self.bytes);
         let same = answer.is_err() || answer == Ok(self.header);
         let number = number_of(answer);
-        (number, number == self.expected && same)
+        judged(number, number == self.expected && same)
     }
 }
 
-fn line(rt: &impl Print, all: &mut Tally, name: &str, cases: &[Case]) -> io::Result<()> {
-    print!(rt; "{name}:")?;
-    for case in cases {
-        let (written, right) = case.write();
-        group::case(rt, all, written, right)?;
-        let (read, right) = case.read();
-        group::case(rt, all, read, right)?;
+fn line(cases: &mut Cases<'_, impl Print>, name: &str, group: &[Case]) -> io::Result<()> {
+    cases.begin(name)?;
+    for case in group {
+        cases.case(case.write())?;
+        cases.case(case.read())?;
     }
-    println!(rt; "")
+    cases.end()
 }
 
 fn names() -> [Case; 9] {
@@ -186,25 +183,25 @@ fn faults() -> [Case; 5] {
     [blank, b, c, d, e]
 }
 
-pub fn fields(rt: &impl Print, all: &mut Tally) -> io::Result<()> {
-    line(rt, all, "well name", &names())?;
-    line(rt, all, "borehole number", &boreholes())?;
-    line(rt, all, "year and month", &dates())?;
-    line(rt, all, "count of readings", &counts())?;
-    line(rt, all, "datum", &datums())?;
-    line(rt, all, "several faults", &faults())
+pub fn fields(cases: &mut Cases<'_, impl Print>) -> io::Result<()> {
+    line(cases, "well name", &names())?;
+    line(cases, "borehole number", &boreholes())?;
+    line(cases, "year and month", &dates())?;
+    line(cases, "count of readings", &counts())?;
+    line(cases, "datum", &datums())?;
+    line(cases, "several faults", &faults())
 }
 
-// Of 25 bytes of AA the first so many are lent, which are not 24.
-fn lent(header: Header, n: usize) -> (u8, bool) {
+// Of 25 bytes of AA the first so many are lent, which are not 24. An array of which a part is lent, so that a byte written behind that part is seen.
+fn lent(header: Header, n: usize) -> Result<u8, u8> {
     let mut out = [0xaa; 25];
     let number = number_of(dip::write_header(header, &mut out[..n.min(25)]));
-    (number, number == 9 && out.iter().all(|b| *b == 0xaa))
+    judged(number, number == 9 && out == [0xaa; 25])
 }
 
 // Bytes given, and bytes lent, of another length than 24.
-pub fn lengths(rt: &impl Print, all: &mut Tally) -> io::Result<()> {
-    print!(rt; "header length:")?;
+pub fn lengths(cases: &mut Cases<'_, impl Print>) -> io::Result<()> {
+    cases.begin("header length")?;
     for (bytes, expected) in [
         (&BYTES[..0], 9),
         (&BYTES[..23], 9),
@@ -212,10 +209,10 @@ pub fn lengths(rt: &impl Print, all: &mut Tally) -> io::Result<()> {
         (&[0; 25], 9),
     ] {
         let number = number_of(dip::read_header(bytes));
-        group::case(rt, all, number, number == expected)?;
+        cases.case(judged(number, number == expected))?;
     }
-    for (number, right) in [lent(USUAL, 0), lent(USUAL, 23), lent(Header::default(), 25)] {
-        group::case(rt, all, number, right)?;
-    }
-    println!(rt; "")
+    cases.case(lent(USUAL, 0))?;
+    cases.case(lent(USUAL, 23))?;
+    cases.case(lent(Header::default(), 25))?;
+    cases.end()
 }

@@ -7,14 +7,14 @@ mod header;
 mod readings;
 mod series;
 
+use group::Cases;
 use std::io;
-use trials::tally::Tally;
 
 fn main(rt: HostRuntime) -> io::Result<()> {
-    let mut all = Tally::default();
-    header::fields(&rt, &mut all)?;
-    header::lengths(&rt, &mut all)?;
-    series::pairs(&rt, &mut all)?;
-    readings::months(&rt, &mut all)?;
-    println!(rt; "all: {all}")
+    let mut cases = Cases::new(&rt);
+    header::fields(&mut cases)?;
+    header::lengths(&mut cases)?;
+    series::pairs(&mut cases)?;
+    readings::months(&mut cases)?;
+    println!(rt; "all: {}", cases.tally)
 }

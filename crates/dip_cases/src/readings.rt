@@ -1,8 +1,6 @@
 // Readings: each case is a count, a run of numbers, the bytes of its readings, and what both calls are to answer; all that they leave is looked at too.
-use crate::group;
-use crate::group::Told;
+use crate::group::{Cases, Told, judged};
 use std::io;
-use trials::tally::Tally;
 
 // A number past the count, which is no reading.
 const PAST: i32 = 2_000_001;
@@ -16,6 +14,8 @@ fn is_left<T: Copy + PartialEq>(room: &[T], made: &[T], lent: T) -> bool {
         .is_some_and(|rest| rest.iter().all(|x| *x == lent))
 }
 
+// Both calls are lent the front of a room of one size for all cases: no allocator is handed in for one as long as the case, and what stands behind
+// the lent part is looked at too.
 #[derive(Drop)]
 struct Case<'a> {
     count: usize,
@@ -26,7 +26,7 @@ struct Case<'a> {
 
 impl Case<'_> {
     // Read into a run as long: the readings where it is done, and the numbers past the count stay; what was lent where it is refused.
-    fn read(&self) -> (Told, bool) {
+    fn read(&self) -> Result<Told, Told> {
         let mut room = [LENT; 40];
         let lent = &mut room[..self.run.len().min(40)];
         let told = Told::from(dip::read_readings(self.count, self.bytes, lent));
@@ -35,14 +35,14 @@ impl Case<'_> {
         } else {
             None
         };
-        (
+        judged(
             told,
             told == self.expected && is_left(&room, read.unwrap_or(&[]), LENT),
         )
     }
 
     // Written into as many AA.
-    fn write(&self) -> (Told, bool) {
+    fn write(&self) -> Result<Told, Told> {
         let mut room = [0xaa; 160];
         let lent = &mut room[..self.bytes.len().min(160)];
         let told = Told::from(dip::write_readings(self.count, self.run, lent));
@@ -51,20 +51,18 @@ impl Case<'_> {
         } else {
             &[]
         };
-        (told, told == self.expected && is_left(&room, written, 0xaa))
+        judged(told, told == self.expected && is_left(&room, written, 0xaa))
     }
 
-    fn tell(&self, rt: &impl Print, all: &mut Tally) -> io::Result<()> {
-        let (read, right) = self.read();
-        group::case(rt, all, read, right)?;
-        let (written, right) = self.write();
-        group::case(rt, all, written, right)
+    fn tell(&self, cases: &mut Cases<'_, impl Print>) -> io::Result<()> {
+        cases.case(self.read())?;
+        cases.case(self.write())
     }
 }
 
 // A reading in the middle of three.
-fn levels(rt: &impl Print, all: &mut Tally) -> io::Result<()> {
-    print!(rt; "reading:")?;
+fn levels(cases: &mut Cases<'_, impl Print>) -> io::Result<()> {
+    cases.begin("reading")?;
     for (z, [a, b, c, d], expected) in [
         (-2_000_001, [0x7f, 0x7b, 0xe1, 0xff], Told(16, 1)),
         (-2_000_000, [0x80, 0x7b, 0xe1, 0xff], Told(0, 0)),
@@ -82,9 +80,9 @@ fn levels(rt: &impl Print, all: &mut Tally) -> io::Result<()> {
             bytes: &[1, 0, 0, 0, a, b, c, d, 0xff, 0xff, 0xff, 0xff],
             expected,
         };
-        case.tell(rt, all)?;
+        case.tell(cases)?;
     }
-    println!(rt; "")
+    cases.end()
 }
 
 #[derive(Clone, Copy)]
@@ -108,7 +106,7 @@ impl Kind {
 }
 
 // Three readings by their kinds, and a number past the count.
-fn three(rt: &impl Print, all: &mut Tally, kinds: [Kind; 3], expected: Told) -> io::Result<()> {
+fn three(cases: &mut Cases<'_, impl Print>, kinds: [Kind; 3], expected: Told) -> io::Result<()> {
     let [(x, a), (y, b), (z, c)] = kinds.map(Kind::reading);
     Case {
         count: 3,
@@ -116,11 +114,11 @@ fn three(rt: &impl Print, all: &mut Tally, kinds: [Kind; 3], expected: Told) -> 
         bytes: [a, b, c].as_flattened(),
         expected,
     }
-    .tell(rt, all)
+    .tell(cases)
 }
 
 // A month's only reading, in a run that has no more.
-fn one(rt: &impl Print, all: &mut Tally, kind: Kind, expected: Told) -> io::Result<()> {
+fn one(cases: &mut Cases<'_, impl Print>, kind: Kind, expected: Told) -> io::Result<()> {
     let (z, bytes) = kind.reading();
     Case {
         count: 1,
@@ -128,11 +126,11 @@ fn one(rt: &impl Print, all: &mut Tally, kind: Kind, expected: Told) -> io::Resu
         bytes: &bytes,
         expected,
     }
-    .tell(rt, all)
+    .tell(cases)
 }
 
 // The last of as many readings as a month may have.
-fn last_of_31(rt: &impl Print, all: &mut Tally) -> io::Result<()> {
+fn last_of_31(cases: &mut Cases<'_, impl Print>) -> io::Result<()> {
     let mut run = [0; 31];
     run[30] = PAST;
     let mut bytes = [0; 124];
@@ -143,60 +141,61 @@ fn last_of_31(rt: &impl Print, all: &mut Tally) -> io::Result<()> {
         bytes: &bytes,
         expected: Told(16, 30),
     }
-    .tell(rt, all)
+    .tell(cases)
 }
 
 // First, last, two and all bad; a missing one before, behind and between bad ones; a month's only one; the last of 31.
-fn places(rt: &impl Print, all: &mut Tally) -> io::Result<()> {
+fn places(cases: &mut Cases<'_, impl Print>) -> io::Result<()> {
     use Kind::{Above, Below, Fine, Missing};
 
-    print!(rt; "which reading is bad:")?;
-    three(rt, all, [Above, Fine, Fine], Told(16, 0))?;
-    three(rt, all, [Fine, Fine, Below], Told(16, 2))?;
-    three(rt, all, [Fine, Above, Below], Told(16, 1))?;
-    three(rt, all, [Below, Fine, Above], Told(16, 0))?;
-    three(rt, all, [Above, Above, Above], Told(16, 0))?;
-    three(rt, all, [Missing, Above, Fine], Told(16, 1))?;
-    three(rt, all, [Below, Missing, Above], Told(16, 0))?;
-    three(rt, all, [Missing, Missing, Below], Told(16, 2))?;
-    three(rt, all, [Fine, Missing, Fine], Told(0, 0))?;
-    one(rt, all, Above, Told(16, 0))?;
-    one(rt, all, Below, Told(16, 0))?;
-    last_of_31(rt, all)?;
-    println!(rt; "")
+    cases.begin("which reading is bad")?;
+    three(cases, [Above, Fine, Fine], Told(16, 0))?;
+    three(cases, [Fine, Fine, Below], Told(16, 2))?;
+    three(cases, [Fine, Above, Below], Told(16, 1))?;
+    three(cases, [Below, Fine, Above], Told(16, 0))?;
+    three(cases, [Above, Above, Above], Told(16, 0))?;
+    three(cases, [Missing, Above, Fine], Told(16, 1))?;
+    three(cases, [Below, Missing, Above], Told(16, 0))?;
+    three(cases, [Missing, Missing, Below], Told(16, 2))?;
+    three(cases, [Fine, Missing, Fine], Told(0, 0))?;
+    one(cases, Above, Told(16, 0))?;
+    one(cases, Below, Told(16, 0))?;
+    last_of_31(cases)?;
+    cases.end()
 }
 
 // The numbers of the run, the count, the bytes, and the client's number that they are refused with. A tuple: the tables are read by columns.
 type Sizes = (usize, usize, usize, u8);
 
 // Refused for the sizes alone, though every reading is out of range.
-fn refused(rt: &impl Print, all: &mut Tally, name: &str, sizes: &[Sizes]) -> io::Result<()> {
-    print!(rt; "{name}:")?;
+fn refused(cases: &mut Cases<'_, impl Print>, name: &str, sizes: &[Sizes]) -> io::Result<()> {
+    cases.begin(name)?;
     for (room, count, size, number) in sizes.iter().copied() {
         let case = Case {
             count,
+            // Of arrays that are longer, since the lengths come from the table and no allocator is handed in.
             run: &[PAST; 40][..room.min(40)],
             bytes: &[0xaa; 160][..size.min(160)],
             expected: Told(number, 0),
         };
-        case.tell(rt, all)?;
+        case.tell(cases)?;
     }
-    println!(rt; "")
+    cases.end()
 }
 
 // A month without a visit: count 0 and no text. The run is left as it was.
-fn no_visit(rt: &impl Print, all: &mut Tally) -> io::Result<()> {
+fn no_visit(cases: &mut Cases<'_, impl Print>) -> io::Result<()> {
     Case {
         count: 0,
         run: &[5; 2],
         bytes: &[],
         expected: Told(0, 0),
     }
-    .tell(rt, all)
+    .tell(cases)
 }
 
 // 31 readings of which the first and the last are missing, in a run of 32: its last number stays.
-fn full_month(rt: &impl Print, all: &mut Tally) -> io::Result<()> {
+fn full_month(cases: &mut Cases<'_, impl Print>) -> io::Result<()> {
     let mut run = [0; 32];
     run[0] = -2_147_483_648;
     run[30] = -2_147_483_648;
@@ -210,7 +209,7 @@ fn full_month(rt: &impl Print, all: &mut Tally) -> io::Result<()> {
         bytes: &bytes,
         expected: Told(0, 0),
     }
-    .tell(rt, all)
+    .tell(cases)
 }
 
 // The last two counts are such that four times the count is no number of the machine; the last would be 4 there.
@@ -230,13 +229,13 @@ const LENGTHS: [Sizes; 4] = [
     (0, 0, 1, 15),
 ];
 
-pub fn months(rt: &impl Print, all: &mut Tally) -> io::Result<()> {
-    levels(rt, all)?;
-    places(rt, all)?;
-    refused(rt, all, "run and count", &COUNTS)?;
-    refused(rt, all, "readings length", &LENGTHS)?;
-    print!(rt; "whole months:")?;
-    no_visit(rt, all)?;
-    full_month(rt, all)?;
-    println!(rt; "")
+pub fn months(cases: &mut Cases<'_, impl Print>) -> io::Result<()> {
+    levels(cases)?;
+    places(cases)?;
+    refused(cases, "run and count", &COUNTS)?;
+    refused(cases, "readings length", &LENGTHS)?;
+    cases.begin("whole months")?;
+    no_visit(cases)?;
+    full_month(cases)?;
+    cases.end()
 }

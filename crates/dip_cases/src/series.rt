@@ -1,9 +1,8 @@
 // One series: pairs of headers, and whether their borehole numbers agree, whatever else differs; told as 1 and 0.
-use crate::group;
+use crate::group::{Cases, judged};
 use crate::header::USUAL;
 use dip::Header;
 use std::io;
-use trials::tally::Tally;
 
 // The usual borehole under another name, with another month and other levels.
 const RENAMED: Header = Header {
@@ -28,8 +27,8 @@ fn unread(borehole: u32) -> Header {
     }
 }
 
-pub fn pairs(rt: &impl Print, all: &mut Tally) -> io::Result<()> {
-    print!(rt; "one series:")?;
+pub fn pairs(cases: &mut Cases<'_, impl Print>) -> io::Result<()> {
+    cases.begin("one series")?;
     for (a, b, expected) in [
         (USUAL, USUAL, true),
         (USUAL, RENAMED, true),
@@ -47,7 +46,7 @@ pub fn pairs(rt: &impl Print, all: &mut Tally) -> io::Result<()> {
         (unread(0), USUAL, false),
     ] {
         let same = dip::same_series(a, b);
-        group::case(rt, all, u8::from(same), same == expected)?;
+        cases.case(judged(u8::from(same), same == expected))?;
     }
-    println!(rt; "")
+    cases.end()
 }

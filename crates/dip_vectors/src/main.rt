@@ -27,7 +27,7 @@ fn totals(tallies: &mut Tallies, mut words: Words<'_>) {
     tallies.totals(words.ends());
 }
 
-// One line, by its first letter.
+// One line, by its first letter. A match on the letter, which comes from the file: there is no caller that could hand in the step.
 fn take(tallies: &mut Tallies, line: &[u8]) {
     let words = Words::past_first(line);
     tallies.next_line();

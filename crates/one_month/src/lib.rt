@@ -6,6 +6,7 @@ use table::{Refusal, StartTag, TAG_BYTES};
 
 // Seals the readings `text` (up to 124 bytes) with the header `meta`, opens them on a second session into `out`, and answers
 // the first refusal, if there is one; where there is none, `out` holds the readings.
+// `room` is an array, of which the front is used: no allocator is handed in for a `Vec` of the length of `text`, and the calls take slices.
 pub fn there_and_back(
     key: &[u8],
     nonce: &[u8],

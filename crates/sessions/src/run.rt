@@ -71,7 +71,7 @@ impl Run {
         run
     }
 
-    // One line, by its first letter.
+    // One line, by its first letter. A match on the letter, which comes from the file: there is no caller that could hand in the step.
     fn line(&mut self, line: &[u8]) {
         let words = Words::past_first(line);
         self.tallies.next_line();
@@ -97,7 +97,8 @@ impl Run {
         self.tallies.other(words.ends());
     }
 
-    // hold ..: the record in hand is replaced. A match, since no closure is generic over the lanes, as a step is; so is it in `call`.
+    // hold ..: the record in hand is replaced. A match, since no closure is generic over the lanes, as a step is, and a trait for a step would be an
+    // impl for each of two, to say what these two arms say.
     fn hold(&mut self, mut words: Words<'_>) {
         self.hand = match self.hand {
             Hand::Lake(session) => Hand::Lake(steps::hold(&mut words, session)),
@@ -106,7 +107,8 @@ impl Run {
         self.tallies.other(words.ends());
     }
 
-    // A call, which is made and compared. A match, as in `hold`.
+    // A call, which is made and compared. A match, as in `hold`: no closure is generic over the lanes, and a trait for a step, with an impl for each
+    // of two, would say what these two arms say.
     fn call(&mut self, mut words: Words<'_>, call: Call) {
         match self.hand {
             Hand::Lake(session) => {

@@ -3,7 +3,8 @@
 ghost use Rattle.std.specs.Prelude.{◌<◌, ◌≤◌, ℕ};
 ghost use Rattle.std.proofs.Common.{rules};
 
-// A state as bytes: all of them at 64 bits; at 32 the first 100, and zeros.
+// A state as bytes: all of them at 64 bits; at 32 the first 100, and zeros. Of one length, since Rattle has no computed const argument for 25 lanes
+// of `WIDTH` bytes.
 pub type State = [u8; 200];
 
 // 25 lanes of either width.
@@ -65,7 +66,7 @@ impl LaneBytes for [u32; 25] {
     }
 
     fn narrowed(lanes: [u64; 25]) -> Self {
-        // `u32::try_from` refuses what does not fit, and std has no call that drops it.
+        // A cast: `u32::try_from` refuses what does not fit; taken from its bytes, a lane's lowest four would have to be named one by one.
         lanes.map(|lane| (lane & 0xffff_ffff) as u32)
     }
 

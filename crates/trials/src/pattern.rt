@@ -12,11 +12,12 @@ pub struct Pattern {
     ghost repeats: { 0 < period },
 }
 
-// The lowest byte. `u8::try_from` refuses what is over 255, and std has no call that drops it.
+// The lowest byte: `u8::try_from` refuses what is over 255.
 pub fn low(n: usize) -> u8
     ensures { result ≡ n % 256 }
 {
-    (n & 0xff) as u8
+    let [low, ..] = n.to_le_bytes();
+    low
 }
 
 impl Pattern {

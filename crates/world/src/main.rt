@@ -7,6 +7,7 @@ mod published;
 mod sponge;
 mod states;
 
+use hashes::{SHA3_256, SHAKE128, TURBOSHAKE128};
 use published::{NARROW, WIDE};
 use std::io;
 use trials::tally::Tally;
@@ -16,15 +17,15 @@ fn main(rt: HostRuntime) -> io::Result<()> {
     for (group, tally) in [
         (
             "SHA3-256 (24 rounds) of 0, 3, 135, 136, 200 and 289 bytes",
-            hashes::sha3_256(),
+            SHA3_256.tally(),
         ),
         (
             "SHAKE128 (24 rounds) of 0, 3, 167, 168, 200 and 289 bytes, and a second block of output",
-            hashes::shake128(),
+            SHAKE128.tally(),
         ),
         (
             "TurboSHAKE128 (12 rounds) of 0, 1, 17 and 289 bytes",
-            hashes::turboshake128(),
+            TURBOSHAKE128.tally(),
         ),
         (
             "KECCAK-f[1600] of the zero state, once and twice",

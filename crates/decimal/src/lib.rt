@@ -38,7 +38,7 @@ fn capped(word: &[u8], top: usize) -> usize
     value
 }
 
-// A word's number, of at most `most`.
+// A word's number, of at most `most`. Not `str::parse`, which wants a `str` and takes a plus: `nearest` needs the loop anyway, and shares it.
 pub fn read(word: &[u8], most: usize) -> Result<usize, NotANumber>
     ensures { IfOk result (λ n. n ≤ most) }
 {

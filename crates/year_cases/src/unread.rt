@@ -12,12 +12,12 @@ const BELOW: i32 = -2_000_001;
 
 // A month's reading, both counted from 0, written over.
 fn spoil(year: &mut Year, month: usize, reading: usize, level: i32)
-    requires month { month < 12 }
-    requires reading { reading < 31 }
+    requires { reading < 31 }
 {
-    let packet = &mut year.room[month].packet;
-    let (levels, _) = packet.bytes[HEADER..].as_chunks_mut::<4>();
-    levels[reading] = level.to_le_bytes();
+    if let Some(month) = year.get_mut(month) {
+        let (levels, _) = month.packet.bytes[HEADER..].as_chunks_mut::<4>();
+        levels[reading] = level.to_le_bytes();
+    }
 }
 
 // The fifth and the seventh reading of February's 31, the only one of March, the last of April's, which stands beside a missing one.

@@ -21,7 +21,7 @@ pub struct Loaded<'a> {
 }
 
 // Reads until the room is full or the file ends; what was read. A `read` takes what the system gives, so it counts; std's `read_to_end` wants the
-// heap. The loop of the program sessions is another: it keeps what came before a failure, which is told here.
+// heap. `vectors::file::read_full` is another loop: it keeps what came before a failure, which is told here.
 fn fill<'a>(file: &mut impl Read, room: &'a mut [u8]) -> io::Result<&'a [u8]>
     ensures { IfOk result (λ bytes. length bytes.now ≤ length room.old) }
 {

@@ -34,6 +34,7 @@ fn run_with<L: Instance>(
 
 // The table goes to standard output, and what is wrong to `errors`.
 pub fn run_on(rt: &(impl Files + Print), errors: &impl Print, words: Words<'_>) {
+    // A match on the word, which the user gives: each arm is the same generic job at its type.
     let sealed = match words.instance {
         b"lake" => run_with::<[u64; 25]>(rt, errors, words),
         b"river" => run_with::<[u32; 25]>(rt, errors, words),

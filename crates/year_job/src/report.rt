@@ -2,7 +2,7 @@
 use dip::Header;
 use show::{Date, Hex, Name};
 use std::{fmt, io};
-use year_text::{Found, Month};
+use year_text::{Found, Names, Year};
 
 // How the year came out, from the good line to what is told before all else: readings that came out other than they were sealed are likely out of
 // range too, so that their months could not be read.
@@ -85,8 +85,8 @@ impl<'a, O: Print, E: Print> Report<'a, O, E> {
     }
 
     // The names that the borehole goes by, where there are two or more.
-    pub fn names(&mut self, months: &[Month]) {
-        let names = year_text::names::tell(self.output, months);
+    pub fn names(&mut self, year: &Year) {
+        let names = print!(self.output; "{}", Names(year));
         self.note(names);
     }
 
@@ -94,7 +94,7 @@ impl<'a, O: Print, E: Print> Report<'a, O, E> {
     pub fn foot(&mut self, found: &Found) {
         let comments = found.comments;
         let blanks = found.blanks;
-        let months = found.year.months().len();
+        let months = found.year.len();
         let lines = print!(self.output;
             "\nSkipped lines: {comments} with a comment, {blanks} blank.\nMonths: {months}. "
         );

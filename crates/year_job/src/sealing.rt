@@ -2,21 +2,22 @@
 use crate::files::Loaded;
 use crate::report::{Report, Verdict};
 use crate::{attacks, opened};
+use arrayvec::ArrayVec;
 use channel::{Channel, Instance, Secrets};
 use packets::{HEADER, Packet, READINGS};
 use table::{Refusal, StartTag, TAG_BYTES};
 use wrong::file::{BadCall, BadFile};
-use year_text::{Found, Month};
+use year_text::{Found, Year};
 
-// The months' packets sealed, in a year's room. The first refusal ends it: what a packet hands to a wrap has lengths that it takes, so that it could
+// The months' packets sealed. The first refusal ends it: what a packet hands to a wrap has lengths that it takes, so that it could
 // only be a session that was not started, which is refused each month alike.
 fn seal_all<L: Instance>(
     mut channel: Channel<L>,
-    months: &[Month],
-) -> Result<[Packet; 12], Refusal> {
-    let mut sealed = [Packet::EMPTY; 12];
-    for (packet, month) in sealed.iter_mut().zip(months) {
-        *packet = channel.seal(&month.packet)?;
+    year: &Year,
+) -> Result<ArrayVec<Packet, 12>, Refusal> {
+    let mut sealed = ArrayVec::new();
+    for month in year.as_slice() {
+        sealed.push(channel.seal(&month.packet)?);
     }
     Ok(sealed)
 }
@@ -31,6 +32,7 @@ fn open_month<L: Instance>(
     let mut out = [0; READINGS];
     match channel.unseal(sealed, HEADER, &mut out) {
         Ok(done) => {
+            // The part of a room that was lent: `unseal` writes to a slice that is there, and no allocator is handed in.
             let readings = &out[..sealed.text_length()];
             opened::month(report, sealed, readings, done.runs);
             if readings != plain.text() {
@@ -50,13 +52,13 @@ fn open_year<L: Instance>(
     report: &mut Report<'_, impl Print, impl Print>,
     second: Channel<L>,
     sealed: &[Packet],
-    months: &[Month],
+    year: &Year,
 ) {
     let mut channel = second;
-    for (packet, month) in sealed.iter().zip(months) {
+    for (packet, month) in sealed.iter().zip(year.iter()) {
         open_month(report, &mut channel, packet, &month.packet);
     }
-    report.names(months);
+    report.names(year);
     attacks::try_all(report, second, sealed);
 }
 
@@ -67,12 +69,11 @@ fn send_all<L: Instance>(
     found: &Found,
 ) -> Result<(), BadCall> {
     let mut tag = [0; TAG_BYTES];
-    let months = found.year.months();
     let first = Channel::<L>::start(secrets, StartTag::Produced, &mut tag).map_err(BadCall::Start)?;
-    let sealed = seal_all(first, months).map_err(BadCall::Seal)?;
+    let sealed = seal_all(first, &found.year).map_err(BadCall::Seal)?;
     let second = Channel::<L>::start(secrets, StartTag::Checked, &mut tag).map_err(BadCall::Start)?;
     report.head(L::NAME, &tag);
-    open_year(report, second, &sealed[..months.len()], months);
+    open_year(report, second, &sealed, &found.year);
     report.foot(found);
     Ok(())
 }
@@ -100,7 +101,7 @@ fn year_of(errors: &impl Print, dips: Loaded<'_>) -> Option<Found> {
         return None;
     }
     let found = year_text::read_dips(errors, dips.bytes)?;
-    if found.year.months().is_empty() {
+    if found.year.is_empty() {
         wrong::file::of_file(errors, path, BadFile::NoMonth);
         return None;
     }

@@ -3,9 +3,10 @@
 #![tactic(auto)]
 
 mod months;
-pub mod names;
+mod names;
 mod one_year;
 mod reader;
 
 pub use months::{Month, Year};
+pub use names::Names;
 pub use reader::{Found, read_dips};

@@ -1,8 +1,11 @@
 // The names that one borehole goes by in a year: the number stays with the hole, the name on its cap may change. Serves the main job.
-use crate::months::Month;
+ghost use Rattle.std.specs.Prelude.{◌≤◌};
+
+use crate::months::Year;
+use arrayvec::ArrayVec;
 use dip::Header;
 use show::{Date, Name};
-use std::{fmt, io};
+use std::fmt;
 
 // How many there may be, in words.
 const IN_WORDS: [&str; 13] = [
@@ -10,18 +13,17 @@ const IN_WORDS: [&str; 13] = [
     "twelve",
 ];
 
-// How many there are: the months whose name no month before them has. A set of them would want the heap, which the job does without.
-fn count(months: &[Month]) -> usize {
-    months
-        .iter()
-        .enumerate()
-        .filter(|(i, this)| {
-            !months
-                .iter()
-                .take(*i)
-                .any(|before| before.header.name == this.header.name)
-        })
-        .count()
+// How many there are: each is kept once. There are no more than there are months.
+fn count(year: &Year) -> usize
+    ensures { result ≤ 12 }
+{
+    let mut names = ArrayVec::<[u8; 12], 12>::new();
+    for month in year.as_slice() {
+        if !names.contains(&month.header.name) {
+            names.push(month.header.name);
+        }
+    }
+    names.len()
 }
 
 // A name, and the month that it begins with.
@@ -34,22 +36,28 @@ impl fmt::Display for Since {
     }
 }
 
-// Where the months of a year go by more than one name, a line that says so, with the first name and every change.
-pub fn tell(to: &impl Print, months: &[Month]) -> io::Result<()> {
-    let names = count(months);
-    match months.first() {
-        Some(first) if 1 < names => {
-            let words = IN_WORDS[names.min(12)];
-            let borehole = first.header.borehole;
-            let since = Since(first.header);
-            print!(to; "\nOne borehole, {words} names: {borehole} is {since}")?;
-            for (before, this) in months.iter().zip(months.iter().skip(1)) {
-                if before.header.name != this.header.name {
-                    print!(to; ", {}", Since(this.header))?;
+// Where the months of a year go by more than one name, a line that says so, with the first name and every change; nothing where they do not.
+#[derive(Clone, Copy)]
+pub struct Names<'a>(pub &'a Year);
+
+impl fmt::Display for Names<'_> {
+    fn fmt<W: fmt::Write>(&self, f: &mut fmt::Formatter<W>) -> fmt::Result {
+        let year = self.0;
+        let names = count(year);
+        match year.first() {
+            Some(first) if 1 < names => {
+                let words = IN_WORDS[names];
+                let borehole = first.header.borehole;
+                let since = Since(first.header);
+                write!(f, "\nOne borehole, {words} names: {borehole} is {since}")?;
+                for (before, this) in year.iter().zip(year.iter().skip(1)) {
+                    if before.header.name != this.header.name {
+                        write!(f, ", {}", Since(this.header))?;
+                    }
                 }
+                f.write_str(".\n")
             }
-            print!(to; ".\n")
+            _ => Ok(()),
         }
-        _ => Ok(()),
     }
 }

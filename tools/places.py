@@ -47,6 +47,20 @@ BY_HAND = [
     *[(2, f"{a}.rt", name, "functions alike", f"{b}.rt {name}") for one, other, name in RUNS for a, b in ((one, other), (other, one))],
     (6, "world/hashes.rt", "all", "parallel arrays", "lengths, and the digits of all one after another", "lengths: &[usize]"),
     (6, "year_text/names.rt", "is_new", "a set searched by hand", "whether a name stands among those of the months before"),
+    (1, "dip_text/head.rt", "header", "a number that stands for none", "0 for a number that is none of its type", "unwrap_or(0)"),
+    (1, "dip_readings/bad.rt", "index", "a number that stands for none", "0 beside another refusal", "_ => 0"),
+    (4, "dip_text/numbers.rt", "whole", "a cast of another kind", "2", "as i64"),
+    (4, "decimal/lib.rt", "read", "conversion by hand", "word to usize", "is_ascii_digit"),
+    (6, "dip_readings/lib.rt", "decode", "parts of one size cut by hand", "by the number of the reading", "fours[i]"),
+    *[(6, place, name, "an array with a length beside it", what, text) for place, name, what, text in (
+        ("one_month/lib.rt", "there_and_back", "room, the text's", ".min(124)"), ("dip_cases/readings.rt", "read", "room, the run's", ".min(40)"),
+        ("dip_cases/readings.rt", "write", "room, the bytes'", ".min(160)"), ("dip_cases/readings.rt", "refused", "two, those of the table", ".min(160)"),
+        ("dip_cases/header.rt", "lent", "out, n", ".min(25)"), ("world/hashes.rt", "is_hash", "room, the message's", ".min(LONGEST)"),
+        ("year_job/sealing.rt", "open_month", "out, the packet's", "sealed.text_length()"), ("year_job/opened.rt", "levels_of", "31, the header's count", "[i32; 31]"),
+        ("dip_vectors/run.rt", "Run", "array, size", "size: usize"), ("trials/lanes.rt", "State", "200, of which 100 at 32 bits", "200"))],
+    *[(7, place, name, "a match that picks a step", what, text) for place, name, what, text in (
+        ("sessions/run.rt", "line", "match line.first()", "match line.first()"), ("dip_vectors/main.rt", "take", "match line.first()", "match line.first()"),
+        ("year_job/job.rt", "run_on", "match words.instance", "match words.instance"))],
 ]
 # What a rule finds and is no place: point, crate/file, name, kind, why.
 NONE = [

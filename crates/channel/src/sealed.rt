@@ -32,7 +32,7 @@ impl<L: Lanes> Channel<L> {
 
     // The plain packet sealed: the same header, its readings as ciphertext, and the tag behind them.
     pub fn seal(&mut self, plain: &Packet) -> Result<Packet, Refusal> {
-        let mut sealed = Packet::EMPTY;
+        let mut sealed = Packet::default();
         let (header, behind) = sealed.bytes.split_at_mut(HEADER);
         let (text, tag) = behind.split_at_mut(plain.text_length());
         header.copy_from_slice(plain.header());

@@ -25,7 +25,8 @@ struct Case<'a> {
 }
 
 impl Case<'_> {
-    // Read into a run as long: the readings where it is done, and the numbers past the count stay; what was lent where it is refused.
+    // Read into a run as long: the readings where it is done, and the numbers past the count stay; what was lent where it is refused. A part of an array is lent, so that
+    // what lies behind it is looked at too.
     fn read(&self) -> Result<Told, Told> {
         let mut room = [LENT; 40];
         let lent = &mut room[..self.run.len().min(40)];
@@ -41,7 +42,7 @@ impl Case<'_> {
         )
     }
 
-    // Written into as many AA.
+    // Written into as many AA, a part of an array likewise.
     fn write(&self) -> Result<Told, Told> {
         let mut room = [0xaa; 160];
         let lent = &mut room[..self.bytes.len().min(160)];

@@ -56,6 +56,12 @@ impl LaneBytes for [u64; 25] {
     ghost within = { Prim.search rules };
 }
 
+// Of a lane its lowest four bytes: `u32::try_from` refuses what does not fit.
+fn lowest(lane: u64) -> u32 {
+    let [a, b, c, d, ..] = lane.to_le_bytes();
+    u32::from_le_bytes([a, b, c, d])
+}
+
 impl LaneBytes for [u32; 25] {
     const WIDTH: usize = 4;
 
@@ -66,8 +72,7 @@ impl LaneBytes for [u32; 25] {
     }
 
     fn narrowed(lanes: [u64; 25]) -> Self {
-        // A cast: `u32::try_from` refuses what does not fit; taken from its bytes, a lane's lowest four would have to be named one by one.
-        lanes.map(|lane| (lane & 0xffff_ffff) as u32)
+        lanes.map(lowest)
     }
 
     ghost within = { Prim.search rules };

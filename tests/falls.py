@@ -131,6 +131,15 @@ def stands(root, crate, names, where, fact):
     return any(declaration(lines, fact) is not None for _, lines in answers or []) or fact in goals(root, crate, where)
 
 
+def whole(root, crate, names, where, fact):
+    """The goal that a fact is one case of: a check that goes through the variants of an enum one by one tells the first that is not proved, as `returns-4`, where
+    the unedited crate has the goal `returns` and no such case."""
+    case = re.fullmatch(r"(returns)-\d+", fact or "")
+    if case and not stands(root, crate, names, where, fact) and stands(root, crate, names, where, case[1]):
+        return case[1]
+    return fact
+
+
 def first_error(crate, lines):
     """The first error that does not follow from another one: its place, its fact, what is wrong with it where it is no fact, and its line."""
     for at, line in enumerate(lines):
@@ -212,6 +221,7 @@ def judge(root, crate, label, said, names):
         if bare:
             return False, f"a function of its own is not proved: {', '.join(bare)}"
         where, fact, wrong, line = first_error(crate, lines)
+        fact = fact if wrong else whole(root, crate, names, where, fact)
         if wrong or f"{where} {fact}" != named[1]:
             return False, f"{wrong or f'it falls at {where} {fact}'}, and names {named[1]}; the first error: {line[:400]}"
         wrong, why = wrong_fact(root, folder, crate, label, names, where, fact), MENDED.get(f"{crate}/{label}")

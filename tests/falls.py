@@ -47,8 +47,8 @@ def told(lines):
 
 
 def proved(lines):
-    """Those of them that are proved."""
-    return {name for name in told(lines) if f"fn {name}: proved" in lines}
+    """Those of them that are proved; a closure that has a `requires` is told with the second of the two words."""
+    return {name for name in told(lines) if not {f"fn {name}: {word}" for word in ("proved", "proved where its callers give what it asks")}.isdisjoint(lines)}
 
 
 def written(crate, folder):

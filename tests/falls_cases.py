@@ -93,6 +93,7 @@ OF_IMPL = "fn one::types::U8Load::load: no proof: expected answers in ./proofs/t
 WAITS = "impl one::types::U8Load: not proved; it waits for the proof of `load`\nimpl one::types::Pair: not proved; it waits for the proof of `a`, `b` and `c`"
 NO_IMPL, WAITS_AND_MORE = "impl one::types::U8Load: not proved", WAITS.splitlines()[0] + "; and more"
 CLOSURE = "fn one::fn::above::map+FnMut::call_mut: no proof: it calls `one::wrap`, which is not proved"
+ASKING = "fn one::fn::helper::map: proved where its callers give what it asks"
 METHOD_HELPED = "fn one::types::Thing::helper: proved"
 METHOD_UNHELPED = "fn one::types::Thing::helper: no proof: expected answers in ./proofs/types/Thing/helper/Answers.antt; `search` did not prove `returns`"
 
@@ -133,6 +134,8 @@ CASES = [
     ("a method of a name that there is, not mentioned", AT_METHOD, OF_METHOD, NAMED_ALIKE, "not proved: one::types::wrap"),
     ("ahead an impl without a reason", AT_IMPL, f"{NO_IMPL}\n{OF_IMPL}", METHOD, "not understood"),
     ("ahead an impl that waits, and more", AT_IMPL, f"{WAITS_AND_MORE}\n{OF_IMPL}", METHOD, "not understood"),
+    ("beside a closure of a helper's that is proved where it is called as it asks", AT_WRAP, f"{FACT}\n{HELPED}\n{ASKING}", WITH_HELPER, FALLS),
+    ("beside a closure that is proved, and more", AT_WRAP, f"{FACT}\n{HELPED}\n{ASKING}; and more", WITH_HELPER, "not proved: one::fn::helper::map"),
     ("beside a closure that waits", AT_WRAP, f"{FACT}\n{CLOSURE}", EDIT, FALLS),
     ("beside a closure of the edit's own that waits", AT_WRAP, f"{FACT}\n{CLOSURE.replace('map', 'filter')}", EDIT, "not proved: one::fn::above::filter"),
     ("beside a closure of a helper's that waits", AT_WRAP, f"{FACT}\n{HELPED}\n{CLOSURE.replace('above', 'helper')}", WITH_HELPER, "not proved: one::fn::helper::map"),

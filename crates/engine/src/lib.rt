@@ -2,7 +2,7 @@
 // Serves the calls, which know the session; here are lanes, a place where text starts and slices. No public call.
 #![tactic(auto)]
 
-ghost use Rattle.std.specs.Prelude.{◌≡◌, [], ◌∷◌, ◌+◌, ◌%◌, ◌≤◌, ◌<◌, length, take, drop};
+ghost use Rattle.std.specs.Prelude.{◌≡◌, [], ◌∷◌, ◌+◌, ◌-◌, ◌%◌, ◌≤◌, ◌<◌, length, take, drop};
 ghost use Rattle.keccak.specs.State.{bytes, keccak_bytes};
 ghost use Rattle.lanes.specs.Width.{instance};
 ghost use Rattle.motorist.specs.Instance.{text_rate, full_rate, pack_length, chain_length};
@@ -133,6 +133,16 @@ fn start_block<L: Lanes>(
     start_block_in(lanes, opening, done, &mut buffer[..n.0], eom)
 }
 
+// What is left of a start's bytes. It stays a function of its own in the machine code: where it is not, the compiler counts the blocks of a start ahead, by a
+// multiplication, and docs/SECURITY.md says that there is none.
+#[inline(never)]
+fn left(total: ByteCount, done: ByteCount) -> ByteCount
+    requires { done.0 ≤ total.0 }
+    ensures { result.0 ≡ total.0 - done.0 }
+{
+    total - done
+}
+
 // The blocks of a start, without its knot: key pack, nonce, number and index of the Piston, a block's worth at a time.
 fn start_group<L: Lanes>(opening: Opening<'_>, eom: u8) -> Ran<L>
     requires { opening.pack.0 ≡ pack_length (instance L.L) }
@@ -145,13 +155,13 @@ fn start_group<L: Lanes>(opening: Opening<'_>, eom: u8) -> Ran<L>
     let mut done = ByteCount(0);
     let mut runs = 0;
     // No `for` over steps of `full`: it would have to count the whole blocks first, since the last one, full or not, ends the group and is not the loop's.
-    while full < total - done {
+    while full < left(total, done) {
         state = start_block(state, opening, done, full, 0);
         done = done + full;
         runs += 1;
     }
     Ran {
-        lanes: start_block(state, opening, done, total - done, eom),
+        lanes: start_block(state, opening, done, left(total, done), eom),
         runs: runs + 1,
     }
 }

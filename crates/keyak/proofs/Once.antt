@@ -14,6 +14,7 @@ use Rattle.table.specs.declared.Done.{Done}
 use Rattle.table.specs.declared.refusal.Refusal.{Refusal}
 use Rattle.lanes.specs.declared.Lanes as Lanes
 use Rattle.calls.specs.Outcome.{Outcome}
+use Rattle.permutation.proofs.Arrays.{Wide, Narrow, wide, narrow, wide_laws, wide_copy, narrow_laws, narrow_copy}
 use Rattle.keyak.specs.Keyak.{outcome}
 use Rattle.keyak.specs.declared.Session.{Session}
 use Rattle.keyak.specs.declared.Turn.{Turn}
@@ -54,3 +55,34 @@ module _ (T : RattleType) (laws : Laws T) (copy : IsCopy T) (lanes : Lanes.Ghost
       (λ κs a x. (a, x.1.1.1.1.1.0.now))
   unwrap-once κs entry a b x y p q =
       ap₂ (λ (t : Turned) (o : Outcome (Session T.Denot)). (t, o.out)) (turned a b (p ∙ sym q)) (p ∙ sym q)
+
+-- ---- and so of Lake and of River, with no premise: of any dictionaries that a call is handed
+module _ (lanes-dict : Dict) (clone : Clone.Ghosts Wide.Denot) (clone-dict : Dict) where
+  pub unstarted_once64 : Once (Session Wide.Denot) _ (unstarted.ps Wide wide_laws wide_copy) (unstarted.r Wide wide_laws wide_copy) (unstarted-contract.Learnt Wide wide_laws wide_copy wide lanes-dict clone clone-dict) (λ κs a x. a)
+  unstarted_once64 = unstarted_once Wide wide_laws wide_copy wide lanes-dict clone clone-dict
+
+  pub start_once64 : Once (Turn Wide.Denot × List ℕ) _ (start.ps Wide wide_laws wide_copy) (start.r Wide wide_laws wide_copy) (start-contract.Learnt Wide wide_laws wide_copy wide lanes-dict clone clone-dict) (λ κs a x. (a, x.1.1.1.1.0.now))
+  start_once64 = start_once Wide wide_laws wide_copy wide lanes-dict clone clone-dict
+
+  pub wrap-once64 : Once (Turn Wide.Denot × List ℕ × List ℕ) _ (wrap.ps Wide wide_laws wide_copy) (wrap.r Wide wide_laws wide_copy) (wrap-contract.Learnt Wide wide_laws wide_copy wide lanes-dict clone clone-dict)
+      (λ κs a x. (a, x.1.1.1.1.0.now, x.1.1.1.1.1.0.now))
+  wrap-once64 = wrap-once Wide wide_laws wide_copy wide lanes-dict clone clone-dict
+
+  pub unwrap-once64 : Once (Turn Wide.Denot × List ℕ) _ (unwrap.ps Wide wide_laws wide_copy) (unwrap.r Wide wide_laws wide_copy) (unwrap-contract.Learnt Wide wide_laws wide_copy wide lanes-dict clone clone-dict)
+      (λ κs a x. (a, x.1.1.1.1.1.0.now))
+  unwrap-once64 = unwrap-once Wide wide_laws wide_copy wide lanes-dict clone clone-dict
+
+module _ (lanes-dict : Dict) (clone : Clone.Ghosts Narrow.Denot) (clone-dict : Dict) where
+  pub unstarted_once32 : Once (Session Narrow.Denot) _ (unstarted.ps Narrow narrow_laws narrow_copy) (unstarted.r Narrow narrow_laws narrow_copy) (unstarted-contract.Learnt Narrow narrow_laws narrow_copy narrow lanes-dict clone clone-dict) (λ κs a x. a)
+  unstarted_once32 = unstarted_once Narrow narrow_laws narrow_copy narrow lanes-dict clone clone-dict
+
+  pub start_once32 : Once (Turn Narrow.Denot × List ℕ) _ (start.ps Narrow narrow_laws narrow_copy) (start.r Narrow narrow_laws narrow_copy) (start-contract.Learnt Narrow narrow_laws narrow_copy narrow lanes-dict clone clone-dict) (λ κs a x. (a, x.1.1.1.1.0.now))
+  start_once32 = start_once Narrow narrow_laws narrow_copy narrow lanes-dict clone clone-dict
+
+  pub wrap-once32 : Once (Turn Narrow.Denot × List ℕ × List ℕ) _ (wrap.ps Narrow narrow_laws narrow_copy) (wrap.r Narrow narrow_laws narrow_copy) (wrap-contract.Learnt Narrow narrow_laws narrow_copy narrow lanes-dict clone clone-dict)
+      (λ κs a x. (a, x.1.1.1.1.0.now, x.1.1.1.1.1.0.now))
+  wrap-once32 = wrap-once Narrow narrow_laws narrow_copy narrow lanes-dict clone clone-dict
+
+  pub unwrap-once32 : Once (Turn Narrow.Denot × List ℕ) _ (unwrap.ps Narrow narrow_laws narrow_copy) (unwrap.r Narrow narrow_laws narrow_copy) (unwrap-contract.Learnt Narrow narrow_laws narrow_copy narrow lanes-dict clone clone-dict)
+      (λ κs a x. (a, x.1.1.1.1.1.0.now))
+  unwrap-once32 = unwrap-once Narrow narrow_laws narrow_copy narrow lanes-dict clone clone-dict

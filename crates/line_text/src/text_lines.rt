@@ -1,5 +1,6 @@
 // The lines of a text, counted from 1.
-ghost use Rattle.std.specs.Prelude.{◌≡◌, ◌+◌, ◌^◌, ◌<◌, length, MatchOption};
+ghost use Rattle.std.specs.Prelude.{◌≡◌, ◌==◌, ◌+◌, ◌^◌, ◌<◌, length, take, MatchOption};
+ghost use Rattle.std.specs.List.{IsFirstMatchOrLen};
 ghost use Rattle.std.specs.Iterator.{at_most};
 
 use crate::places;
@@ -35,8 +36,8 @@ impl<'a> Lines<'a> {
 impl<'a> Iterator for Lines<'a> {
     type Item = Line<'a>;
 
-    // Each has the number after the one before it.
-    ghost next_gives = { λ s line t. MatchOption line (length s.rest.now ≡ 0) (λ l. (l.number ≡ s.number + 1) × (t.number ≡ l.number) × (length t.rest.now < length s.rest.now)) };
+    // Each has the number after the one before it, and is what stands before the first line end of what was left, or all of it.
+    ghost next_gives = { λ s line t. MatchOption line (length s.rest.now ≡ 0) (λ l. (l.number ≡ s.number + 1) × (t.number ≡ l.number) × (l.text.now ≡ take (length l.text.now) s.rest.now) × IsFirstMatchOrLen (λ b. b == 10) s.rest.now (length l.text.now) × (length t.rest.now < length s.rest.now)) };
 
     ghost remaining = { λ lines. at_most (length lines.rest.now) };
 

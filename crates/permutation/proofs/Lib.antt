@@ -1,2 +1,3 @@
 -- The laws of `permutation`.
 pub mod Once
+pub mod Arrays

@@ -55,7 +55,7 @@ impl Rates {
     pub fn of<L: Lanes>() -> Rates
         ensures { RatesOf (instance L.L) result }
     {
-        let lane = BitCount(8 * L::BYTES);
+        let lane = BitCount(1 << L::L);
         let keyak = Instance {
             width: BitCount(25 * lane.0),
             lane,

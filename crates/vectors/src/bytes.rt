@@ -21,9 +21,9 @@ fn digit(c: u8) -> Option<u8> {
     }
 }
 
-// Whether both are digits.
-pub fn are_digits(pair: &[u8; 2]) -> bool {
-    pair.iter().all(|c| digit(*c).is_some())
+// Whether all are digits. Every one is looked at, also past one that is none, so that the compiler takes many at once.
+pub fn are_digits(hex: &[u8]) -> bool {
+    hex.iter().fold(true, |all, c| all & digit(*c).is_some())
 }
 
 // The byte of two digits; what is none counts as 0.
@@ -33,11 +33,27 @@ fn byte(pair: &[u8; 2]) -> u8 {
 }
 
 impl Bytes<'_> {
-    // Byte i.
-    pub fn at(&self, i: usize) -> u8 {
-        match i.checked_sub(self.place).and_then(|k| self.pairs.get(k)) {
-            Some(pair) => byte(pair),
-            None => self.pattern.at(i),
+    // Lays them to the front of `into`: the pattern, and then the pairs over it, so that no byte costs a test of which of the two it is.
+    #[inline(always)]
+    pub fn lay(&self, into: &mut [u8]) {
+        self.pattern.fill(into);
+        let place = self.place.min(into.len());
+        for (to, pair) in into[place..].iter_mut().zip(self.pairs) {
+            *to = byte(pair);
         }
+    }
+
+    // Whether `got` is the front of them, in three stretches, each looked at to its end: the pairs, and the pattern before and behind them.
+    #[inline(always)]
+    pub fn are(&self, got: &[u8]) -> bool {
+        let (before, rest) = got.split_at(self.place.min(got.len()));
+        let pairs = &self.pairs[..self.pairs.len().min(rest.len())];
+        let (told, behind) = rest.split_at(pairs.len());
+        let same = told
+            .iter()
+            .zip(pairs)
+            .fold(true, |same, (got, pair)| same & (*got == byte(pair)));
+        same && self.pattern.is_in(before, 0)
+            && self.pattern.is_in(behind, before.len() + told.len())
     }
 }

@@ -28,15 +28,17 @@ fn mark_at(i: usize) -> u8
     low(i) ^ 165
 }
 
-// Whether each byte has its mark, where the first is at place `from`. Not `(from..).zip(bytes)`: that ends at the largest number, and
-// would say nothing of the bytes past it.
+// Whether each byte has its mark, where the first is at place `from`. Every byte is looked at, and of its place the lowest byte alone is reckoned,
+// so that the compiler takes many bytes at once. Not `(from..).zip(bytes)`: that ends at the largest number, and would say nothing of those past it.
 fn are_marked(bytes: &[u8], from: usize) -> bool
     ensures { IsTrue result ↔ AreMarked bytes.now from }
 {
-    bytes
-        .iter()
-        .enumerate()
-        .all(|(i, byte)| *byte == mark_at(from.wrapping_add(i)))
+    let first = low(from);
+    let mut all = true;
+    for (i, byte) in bytes.iter().enumerate() {
+        all = all & (*byte == mark_at(usize::from(first.wrapping_add(low(i)))));
+    }
+    all
 }
 
 impl<'a> Guarded<'a> {

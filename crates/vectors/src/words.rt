@@ -65,8 +65,9 @@ impl<'a> Words<'a> {
         ensures unsound_stays { self.old.same ≡ false → self.new.same ≡ false }
     {
         let word = self.word();
-        self.expect(decimal::read(word, most).is_ok());
-        decimal::nearest(word, most)
+        let number = decimal::read(word, most);
+        self.expect(number.is_ok());
+        number.unwrap_or_else(|_| decimal::nearest(word, most))
     }
 
     // A number that is a choice: 0 or 1.
@@ -77,8 +78,10 @@ impl<'a> Words<'a> {
     }
 
     // The words A B: byte i is A * i + B + 29 * (i / 256), modulo 256; where A is 0, every byte is B.
+    #[inline(always)]
     fn pattern(&mut self) -> Pattern
-        ensures { self.old.same ≡ false → self.new.same ≡ false }
+        ensures period { result.period ≡ 256 }
+        ensures unsound_stays { self.old.same ≡ false → self.new.same ≡ false }
     {
         let [step, first] = [self.number(255), self.number(255)].map(low);
         Pattern {
@@ -100,11 +103,12 @@ impl<'a> Words<'a> {
         let (all, odd) = hex.as_chunks::<2>();
         let pairs = &all[..all.len().min(most)];
         self.expect(odd.is_empty() && !pairs.is_empty() && pairs.len() == all.len());
-        self.expect(pairs.iter().all(are_digits));
+        self.expect(are_digits(hex));
         pairs
     }
 
-    // The words LENGTH A B PLACE HEX, of at most `most` bytes.
+    // The words LENGTH A B PLACE HEX, of at most `most` bytes. Inlined, so that its callers know the period (`Pattern`).
+    #[inline(always)]
     fn bytes(&mut self, most: usize) -> Bytes<'a>
         ensures bounded { result.length ≤ most }
         ensures unsound_stays { self.old.same ≡ false → self.new.same ≡ false }
@@ -128,9 +132,7 @@ impl<'a> Words<'a> {
     {
         let told = self.bytes(room.len());
         let into = &mut room[..told.length];
-        for (i, byte) in into.iter_mut().enumerate() {
-            *byte = told.at(i);
-        }
+        told.lay(into);
         into
     }
 
@@ -147,8 +149,7 @@ impl<'a> Words<'a> {
         ensures { self.old.same ≡ false → self.new.same ≡ false }
     {
         let told = self.bytes(got.len());
-        self.expect(told.length == got.len());
-        self.expect(got.iter().enumerate().all(|(i, byte)| *byte == told.at(i)));
+        self.expect(told.length == got.len() && told.are(got));
     }
 
     // Whether the next words are so many '-', which expect nothing; then they are passed.

@@ -1,5 +1,7 @@
 // Published hashes over the 64-bit permutation: SHA3-256 and SHAKE128, which take all 24 rounds, and TurboSHAKE128, which takes
 // the last 12. Messages are `abc`, 200 bytes A3 (the example of FIPS 202), and the pattern 00 01 .. FA 00 01 .. of RFC 9861.
+ghost use Rattle.std.specs.Prelude.{◌≡◌};
+
 use crate::compare::agrees;
 use crate::sponge::{Kind, hash};
 use trials::pattern::Pattern;
@@ -26,7 +28,9 @@ impl Message {
     }
 
     // 5 more than the 251 bytes from 00 to FA make 256.
-    fn pattern(self) -> Pattern {
+    fn pattern(self) -> Pattern
+        ensures { result.period ≡ 251 }
+    {
         let (first, step) = match self {
             Message::Abc => (b'a', 1),
             Message::A3 => (0xA3, 0),

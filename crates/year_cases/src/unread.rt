@@ -4,7 +4,7 @@ ghost use Rattle.std.specs.Prelude.{◌<◌};
 
 use channel::Secrets;
 use packets::HEADER;
-use year_text::Year;
+use year_text::{Found, Year};
 
 const ABOVE: i32 = 2_000_001;
 
@@ -29,6 +29,7 @@ fn spoil_year(year: &mut Year) {
 }
 
 pub fn run(output: &impl Print) {
+    let mut year = Year::new();
     let read = year_text::read_dips(
         output,
         b"KW-4 51004 2026 01 92400 -1171 -1168
@@ -37,13 +38,22 @@ KW-4 51004 2026 03 92400 -1150
 KW-4 51004 2026 04 92400 -1149 - -1147
 KW-4 51004 2026 05 92400 -1141 -1139
 ",
+        &mut year,
     );
-    if let Some(mut found) = read {
-        spoil_year(&mut found.year);
+    if let Some(read) = read {
+        // Taken out before the year is spoiled, since what was read lends it.
+        let comments = read.comments;
+        let blanks = read.blanks;
+        spoil_year(&mut year);
+        let found = Found {
+            year: &year,
+            comments,
+            blanks,
+        };
         let secrets = Secrets {
             key: b"0123456789abcdef",
             nonce: b"unread",
         };
-        year_job::run_packets::<[u64; 25]>(output, output, secrets, &found);
+        year_job::run_packets::<[u64; 25]>(output, output, secrets, found);
     }
 }

@@ -50,7 +50,7 @@ pub fn run_packets<L: Instance>(
     output: &impl Print,
     errors: &impl Print,
     secrets: Secrets<'_>,
-    found: &Found,
+    found: Found<'_>,
 ) {
     if sealing::send::<L>(Report::new(output, errors), secrets, found).is_none() {
         wrong::file::nothing(errors);

@@ -15,4 +15,5 @@ mod sealing;
 mod secrets;
 
 pub use arguments::run;
+pub use channel::Instance;
 pub use job::{Words, run_on, run_packets};

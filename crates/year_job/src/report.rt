@@ -91,7 +91,7 @@ impl<'a, O: Print, E: Print> Report<'a, O, E> {
     }
 
     // What of the file is in the table and what is not, then the last line: the program has no other way to tell how it came out.
-    pub fn foot(&mut self, found: &Found) {
+    pub fn foot(&mut self, found: Found<'_>) {
         let comments = found.comments;
         let blanks = found.blanks;
         let months = found.year.len();

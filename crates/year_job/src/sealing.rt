@@ -66,14 +66,14 @@ fn open_year<L: Instance>(
 fn send_all<L: Instance>(
     report: &mut Report<'_, impl Print, impl Print>,
     secrets: Secrets<'_>,
-    found: &Found,
+    found: Found<'_>,
 ) -> Result<(), BadCall> {
     let mut tag = [0; TAG_BYTES];
     let first = Channel::<L>::start(secrets, StartTag::Produced, &mut tag).map_err(BadCall::Start)?;
-    let sealed = seal_all(first, &found.year).map_err(BadCall::Seal)?;
+    let sealed = seal_all(first, found.year).map_err(BadCall::Seal)?;
     let second = Channel::<L>::start(secrets, StartTag::Checked, &mut tag).map_err(BadCall::Start)?;
     report.head(L::NAME, &tag);
-    open_year(report, second, &sealed, &found.year);
+    open_year(report, second, &sealed, found.year);
     report.foot(found);
     Ok(())
 }
@@ -82,7 +82,7 @@ fn send_all<L: Instance>(
 pub fn send<L: Instance>(
     mut report: Report<'_, impl Print, impl Print>,
     secrets: Secrets<'_>,
-    found: &Found,
+    found: Found<'_>,
 ) -> Option<()> {
     match send_all::<L>(&mut report, secrets, found) {
         Ok(()) => Some(()),
@@ -94,13 +94,13 @@ pub fn send<L: Instance>(
 }
 
 // The year of a file, where there is one.
-fn year_of(errors: &impl Print, dips: Loaded<'_>) -> Option<Found> {
+fn year_of<'a>(errors: &impl Print, dips: Loaded<'_>, room: &'a mut Year) -> Option<Found<'a>> {
     let path = dips.path.as_bytes();
     if line_text::has_mark(dips.bytes) {
         wrong::file::of_file(errors, path, BadFile::Marked);
         return None;
     }
-    let found = year_text::read_dips(errors, dips.bytes)?;
+    let found = year_text::read_dips(errors, dips.bytes, room)?;
     if found.year.is_empty() {
         wrong::file::of_file(errors, path, BadFile::NoMonth);
         return None;
@@ -113,6 +113,7 @@ pub fn run<L: Instance>(
     secrets: Secrets<'_>,
     dips: Loaded<'_>,
 ) -> Option<()> {
-    let found = year_of(report.errors, dips)?;
-    send::<L>(report, secrets, &found)
+    let mut room = Year::new();
+    let found = year_of(report.errors, dips, &mut room)?;
+    send::<L>(report, secrets, found)
 }

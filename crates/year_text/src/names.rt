@@ -19,8 +19,9 @@ fn count(year: &Year) -> usize
 {
     let mut names = ArrayVec::<[u8; 12], 12>::new();
     for month in year.as_slice() {
-        if !names.contains(&month.header.name) {
-            names.push(month.header.name);
+        let name = month.in_packet().name;
+        if !names.contains(&name) {
+            names.push(name);
         }
     }
     names.len()
@@ -36,7 +37,8 @@ impl fmt::Display for Since {
     }
 }
 
-// Where the months of a year go by more than one name, a line that says so, with the first name and every change; nothing where they do not.
+// Where the months of a year go by more than one name, a line that says so, with the first name and every change; nothing where they do not. The names are those in the
+// packets, as in the table's rows.
 #[derive(Clone, Copy)]
 pub struct Names<'a>(pub &'a Year);
 
@@ -47,12 +49,14 @@ impl fmt::Display for Names<'_> {
         match year.first() {
             Some(first) if 1 < names => {
                 let words = IN_WORDS[names];
-                let borehole = first.header.borehole;
-                let since = Since(first.header);
+                let header = first.in_packet();
+                let borehole = header.borehole;
+                let since = Since(header);
                 write!(f, "\nOne borehole, {words} names: {borehole} is {since}")?;
                 for (before, this) in year.iter().zip(year.iter().skip(1)) {
-                    if before.header.name != this.header.name {
-                        write!(f, ", {}", Since(this.header))?;
+                    let header = this.in_packet();
+                    if before.in_packet().name != header.name {
+                        write!(f, ", {}", Since(header))?;
                     }
                 }
                 f.write_str(".\n")

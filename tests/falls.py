@@ -11,6 +11,7 @@ python3 tests/falls.py SAID [NAME...], SAID the file of what `rt ci` said, or `r
 stand on (as `rt ci NAME...` tries them), says of each edit where it falls, and leaves with 1 where that is not what it names."""
 import collections
 import concurrent.futures
+import contextlib
 import pathlib
 import re
 import shutil
@@ -172,8 +173,9 @@ def wrong_fact(root, folder, crate, label, names, where, fact):
     return None
 
 
-def checked(root, folder):
-    """What a check says of the crate in the folder, line by line, in a copy of the repository beside what its other crates were built to."""
+@contextlib.contextmanager
+def copied(root):
+    """A copy of the repository, of what a check reads: the crates, and what they were built to."""
     with tempfile.TemporaryDirectory() as room:
         copy = pathlib.Path(room)
         (copy / "crates").mkdir()
@@ -184,6 +186,13 @@ def checked(root, folder):
             for part in ("src", "specs", "proofs", "out/rlib"):
                 if (crate / part).is_dir():
                     shutil.copytree(crate / part, copy / "crates" / crate.name / part)
+        yield copy
+
+
+def checked(still, folder):
+    """What a check says of the crate in the folder, line by line, in a copy of the repository beside what its other crates were built to. `still` is a copy too,
+    in which nothing runs: in the repository `goals` does, at the same time, and its check builds again what lies below."""
+    with copied(still) as copy:
         to = copy / "crates" / folder.name
         for part in ("src", "specs", "proofs"):
             shutil.rmtree(to / part, ignore_errors=True)
@@ -193,7 +202,7 @@ def checked(root, folder):
         return (ran.stdout + ran.stderr).splitlines()
 
 
-def judge(root, crate, label, said, names):
+def judge(root, still, crate, label, said, names):
     """Whether the edit falls at the fact that it names, and a line that says where it falls. `names`: the functions that the unedited crate's check proves."""
     before, edit = root / "crates" / crate, root / "crates" / crate / "must-fail" / f"{label}.edit"
     named = re.fullmatch(r"falls: (\S+ \S+)", "".join(edit.read_text().splitlines()[1:2]))
@@ -216,7 +225,7 @@ def judge(root, crate, label, said, names):
             return False, "it changes nothing under src/ or specs/"
         if not words.startswith(REFUSED):
             return False, f"rt does not say that it is refused at a fact: {words[:400]}"
-        lines = checked(root, folder)
+        lines = checked(still, folder)
         bare = unproved(written(crate, folder) - written(crate, before), lines, names)
         if bare:
             return False, f"a function of its own is not proved: {', '.join(bare)}"
@@ -244,10 +253,10 @@ def main():
     root, wrong = pathlib.Path("."), 0
     said = {f"{found[1]}/{found[2]}": found[3] for line in pathlib.Path(sys.argv[1]).read_text(errors="replace").splitlines() if (found := TOLD.match(line))}
     tried = [(crate, edit.stem) for crate in crates(root, sys.argv[2:]) for edit in sorted((root / "crates" / crate / "must-fail").glob("*.edit"))]
-    with concurrent.futures.ThreadPoolExecutor(4) as pool:
+    with copied(root) as still, concurrent.futures.ThreadPoolExecutor(4) as pool:
         edited = sorted({crate for crate, _ in tried})
-        names = dict(zip(edited, pool.map(lambda crate: proved(checked(root, root / "crates" / crate)), edited)))
-        for (crate, label), (right, words) in zip(tried, pool.map(lambda it: judge(root, *it, said, names[it[0]]), tried)):
+        names = dict(zip(edited, pool.map(lambda crate: proved(checked(still, root / "crates" / crate)), edited)))
+        for (crate, label), (right, words) in zip(tried, pool.map(lambda it: judge(root, still, *it, said, names[it[0]]), tried)):
             print(f"must-fail {crate}/{label}: {words if right else f'NOT AS NAMED: {words}'}", flush=True)
             wrong += not right
     print(f"{len(tried) - wrong} of {len(tried)} edits fall at the fact that they name")

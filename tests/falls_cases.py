@@ -207,8 +207,8 @@ def judged(second, words, log, changed, label="edit"):
             write(root / "crates/one" / file, text)
         lines = [line for file, pairs in changed.items() for old, new in pairs for line in (f"file: {file}", f"old: {old}", f"new: {new}")]
         write(root / f"crates/one/must-fail/{label}.edit", "\n".join(["What is wrong.", second, *lines]) + "\n")
-        falls.checked = lambda root, folder: (log + "\nlogic=not-proved").splitlines()
-        return falls.judge(root, "one", label, {} if words is None else {f"one/{label}": words}, falls.proved(UNEDITED.splitlines()))
+        falls.checked = lambda still, folder: (log + "\nlogic=not-proved").splitlines()
+        return falls.judge(root, root, "one", label, {} if words is None else {f"one/{label}": words}, falls.proved(UNEDITED.splitlines()))
 
 
 wrong, falls.MENDED = [], {"one/listed": "seen to be right"}
